@@ -1,0 +1,92 @@
+-- Tests of equality, which compute: names, levels, sorts and terms that are the same, part by part.
+use Rattle.std.specs.Prelude.{ℕ, Bool, true, false, ◌&&◌, nat_eq, List, [], ◌∷◌}
+use Rattle.cic_terms.specs.Tree.{TreeSort, prop, set, typ, own, Shape, Former, SortF, ProdF, LamF, AppF, LetF, ConstF, IndF, CtorF, CaseF, FixF, Binders, none, one, many, more, Tree, rel, node, Children, no_child, child}
+use Rattle.cic_terms.specs.declared.name.GlobalId.{GlobalId}
+use Rattle.cic_terms.specs.declared.level.Part.{Part}
+use Rattle.cic_terms.specs.declared.level.Part.TheVariants.{Declared, Visible, Proof}
+use Rattle.cic_terms.specs.declared.level.LevelName.{LevelName}
+use Rattle.cic_terms.specs.declared.level.Level.{Level}
+use Rattle.cic_terms.specs.declared.level.Level.TheVariants.{Set, Named}
+use Rattle.cic_terms.specs.declared.level.Atom.{Atom}
+
+-- The same bytes, one by one.
+abbrev pub same_bytes : List ℕ → List ℕ → Bool
+same_bytes [] [] = true
+same_bytes (x ∷ xs) (y ∷ ys) = nat_eq x y && same_bytes xs ys
+same_bytes _ _ = false
+
+-- The same library and the same name in it.
+abbrev pub same_id : GlobalId → GlobalId → Bool
+same_id a b = same_bytes a.lib b.lib && same_bytes a.name b.name
+
+abbrev pub same_part : Part → Part → Bool
+same_part Declared Declared = true
+same_part Visible Visible = true
+same_part Proof Proof = true
+same_part _ _ = false
+
+abbrev pub same_level_name : LevelName → LevelName → Bool
+same_level_name a b =
+    same_bytes a.lib b.lib && same_bytes a.owner b.owner && same_part a.part b.part && nat_eq a.number b.number
+
+abbrev pub same_level : Level → Level → Bool
+same_level Set Set = true
+same_level (Named a) (Named b) = same_level_name a b
+same_level _ _ = false
+
+abbrev pub same_bool : Bool → Bool → Bool
+same_bool true true = true
+same_bool false false = true
+same_bool _ _ = false
+
+abbrev pub same_atom : Atom → Atom → Bool
+same_atom a b = same_level a.level b.level && same_bool a.plus b.plus
+
+abbrev pub same_atoms : List Atom → List Atom → Bool
+same_atoms [] [] = true
+same_atoms (a ∷ xs) (b ∷ ys) = same_atom a b && same_atoms xs ys
+same_atoms _ _ = false
+
+abbrev pub same_sort : TreeSort → TreeSort → Bool
+same_sort prop prop = true
+same_sort set set = true
+same_sort (typ a) (typ b) = same_atoms a b
+same_sort (own i) (own j) = nat_eq i j
+same_sort _ _ = false
+
+abbrev pub same_shapes : List Shape → List Shape → Bool
+same_shapes [] [] = true
+same_shapes (a ∷ xs) (b ∷ ys) = nat_eq a.k b.k && nat_eq a.domains b.domains && same_shapes xs ys
+same_shapes _ _ = false
+
+abbrev pub same_former : Former → Former → Bool
+same_former (SortF s) (SortF s') = same_sort s s'
+same_former ProdF ProdF = true
+same_former LamF LamF = true
+same_former AppF AppF = true
+same_former LetF LetF = true
+same_former (ConstF a) (ConstF b) = same_id a b
+same_former (IndF a) (IndF b) = same_id a b
+same_former (CtorF a) (CtorF b) = same_id a b
+same_former (CaseF a) (CaseF b) = same_id a b
+same_former (FixF i s) (FixF j s') = nat_eq i j && same_shapes s s'
+same_former _ _ = false
+
+abbrev pub same_binders : Binders → Binders → Bool
+same_binders none none = true
+same_binders one one = true
+same_binders (many m) (many n) = nat_eq m n
+same_binders (more m) (more n) = nat_eq m n
+same_binders _ _ = false
+
+-- The same term: equal formers, ids, numbers and parts.
+abbrev mutual
+  pub same_tree : Tree → Tree → Bool
+  same_tree (rel m) (rel n) = nat_eq m n
+  same_tree (node f ks) (node g ls) = same_former f g && same_children ks ls
+  same_tree _ _ = false
+
+  pub same_children : Children → Children → Bool
+  same_children no_child no_child = true
+  same_children (child b t ks) (child c u ls) = same_binders b c && same_tree t u && same_children ks ls
+  same_children _ _ = false
