@@ -1,5 +1,7 @@
 pub mod Sameness
-pub mod Environment
 pub mod Constraints
+pub mod Environment
+pub mod Telescopes
 pub mod Outcome
+pub mod Evaluation
 pub mod Checking
