@@ -4,4 +4,7 @@ pub mod Environment
 pub mod Telescopes
 pub mod Outcome
 pub mod Evaluation
+pub mod BlockTests
+pub mod GuardTest
+pub mod Inference
 pub mod Checking
