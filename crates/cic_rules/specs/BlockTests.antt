@@ -1,10 +1,10 @@
 -- The tests of a block of inductive types: its shape and its positivity, each with the first place at fault.
-use Rattle.std.specs.Prelude.{ℕ, zero, suc, ◌+◌, ◌-◌, Bool, true, false, not, ◌&&◌, ◌||◌, nat_eq, nat_le, if◌then◌else◌, Option, Some, None, is_none, List, [], ◌∷◌, ◌++◌, length, take, drop}
+use Rattle.std.specs.Prelude.{ℕ, ◌+◌, ◌-◌, Bool, true, false, not, ◌&&◌, ◌||◌, nat_eq, nat_le, if◌then◌else◌, Option, Some, None, is_none, List, [], ◌∷◌, length, take, drop}
 use Rattle.cic_terms.specs.Tree.{TreeSort, prop, set, typ, own, Former, ConstF, IndF, CtorF, CaseF, Tree, rel, node, Children, no_child, child, sort, prod, ind}
 use Rattle.cic_terms.specs.declared.name.GlobalId.{GlobalId}
 use Rattle.cic_rules.specs.Sameness.{same_id, same_tree}
 use Rattle.cic_rules.specs.Environment.{Block, TypeDeclaration, ConstructorDeclaration, bare_ids}
-use Rattle.cic_rules.specs.Telescopes.{apply, head_of, arguments_of, domains_of, conclusion_of, variables, lift_all}
+use Rattle.cic_rules.specs.Telescopes.{head_of, arguments_of, domains_of, conclusion_of, variables, lift_all}
 use Rattle.cic_rules.specs.Evaluation.{plain_level}
 
 -- Whether a sort is Prop, Set or Typ of one plain level.
@@ -84,8 +84,8 @@ constructors_fault r domains index (t ∷ ts) =
 abbrev pub shape_fault : Block → Option ShapeFault
 shape_fault block =
     first_fault
-      (arity_fault block.parameters (parameter_domains block.parameters block.types) 0 block.types)
-      (constructors_fault block.parameters (parameter_domains block.parameters block.types) 0 block.types)
+    (arity_fault block.parameters (parameter_domains block.parameters block.types) 0 block.types)
+    (constructors_fault block.parameters (parameter_domains block.parameters block.types) 0 block.types)
 
 abbrev pub is_shaped : Block → Bool
 is_shaped block = is_none (shape_fault block)
@@ -155,9 +155,9 @@ abbrev pub constructor_positivity_fault : List GlobalId → (r index place : ℕ
 constructor_positivity_fault ids r index place [] = None
 constructor_positivity_fault ids r index place (c ∷ cs) =
     first_fault
-      (positivity_fault_at index place
-        (first_fault (argument_fault ids 1 (drop r (domains_of c.type))) (conclusion_fault ids r (conclusion_of c.type))))
-      (constructor_positivity_fault ids r index (place + 1) cs)
+    (positivity_fault_at index place
+    (first_fault (argument_fault ids 1 (drop r (domains_of c.type))) (conclusion_fault ids r (conclusion_of c.type))))
+    (constructor_positivity_fault ids r index (place + 1) cs)
 
 abbrev pub type_positivity_fault : List GlobalId → (r index : ℕ) → List TypeDeclaration → Option PositivityFault
 type_positivity_fault ids r index [] = None

@@ -3,7 +3,7 @@
 -- "Conversion rules"). Each is one step over the calls one deeper; only the functions named `.._at`
 -- recurse, on what is left of the depth.
 use Rattle.std.specs.Prelude.{ℕ, zero, suc, ◌+◌, ◌-◌, Bool, true, false, ◌&&◌, nat_eq, if◌then◌else◌, Option, Some, None, option_and_then, List, [], ◌∷◌, length, drop}
-use Rattle.cic_terms.specs.Tree.{TreeSort, prop, set, typ, Shape, Former, SortF, LetF, CaseF, FixF, Binders, over, Tree, rel, node, Children, no_child, child, sort, prod, lam, let_in, app, const, ctor, case, fix}
+use Rattle.cic_terms.specs.Tree.{TreeSort, prop, set, typ, Former, SortF, LetF, CaseF, FixF, over, Tree, rel, node, Children, no_child, child, sort, prod, lam, let_in, app, const, ctor, case, fix}
 use Rattle.cic_terms.specs.Lift.{lift_tree, subst_tree}
 use Rattle.cic_terms.specs.declared.name.GlobalId.{GlobalId}
 use Rattle.cic_terms.specs.declared.level.Level.{Level}
@@ -11,7 +11,7 @@ use Rattle.cic_terms.specs.declared.level.Atom.{Atom}
 use Rattle.cic_rules.specs.Sameness.{same_id, same_atoms, same_sort, same_shapes, same_former, same_binders, same_tree}
 use Rattle.cic_rules.specs.Environment.{Environment, Context, Constructor, transparent_body, constructor_of, body_at, element, unknown, under_unknown}
 use Rattle.cic_rules.specs.Telescopes.{apply, head_of, arguments_of, abstractions, substitute_all, lift_domains, BranchParts, branch_at, Function, functions_of, function_types, unfolded}
-use Rattle.cic_rules.specs.Outcome.{Counted, Cause, mismatch, universe_form, spent, deep, ◌>>=◌, ◌>>◌, give, stop, refuse, tick, note, fitting, fitting_all}
+use Rattle.cic_rules.specs.Outcome.{Counted, mismatch, universe_form, spent, deep, ◌>>=◌, ◌>>◌, give, stop, refuse, tick, note, fitting, fitting_all}
 
 -- After a turn of the loop: the answer, or the term to go on with.
 pub data Turn : Type 0 where

@@ -1,6 +1,6 @@
 -- The test of the guard of a Fix, with the first occurrence at fault.
-use Rattle.std.specs.Prelude.{ℕ, zero, suc, ◌+◌, ◌-◌, Bool, true, false, ◌&&◌, ◌||◌, nat_eq, nat_lt, if◌then◌else◌, Option, Some, None, option_and_then, List, [], ◌∷◌, ◌++◌, length, drop, replicate}
-use Rattle.cic_terms.specs.Tree.{Shape, Binders, over, Tree, rel, node, Children, no_child, child, sort, prod, lam, let_in, app, const, ind, ctor, case, fix}
+use Rattle.std.specs.Prelude.{ℕ, zero, suc, ◌+◌, Bool, true, false, ◌&&◌, ◌||◌, nat_eq, if◌then◌else◌, Option, Some, None, List, [], ◌∷◌, ◌++◌, length, drop, replicate}
+use Rattle.cic_terms.specs.Tree.{Shape, over, Tree, rel, node, Children, no_child, child, lam, app, ind, case, fix}
 use Rattle.cic_terms.specs.declared.name.GlobalId.{GlobalId}
 use Rattle.cic_rules.specs.Environment.{Environment, TypeInBlock, Block, TypeDeclaration, ConstructorDeclaration, whole_block, element, bare_ids}
 use Rattle.cic_rules.specs.Telescopes.{head_of, domains_of, conclusion_of, Function}

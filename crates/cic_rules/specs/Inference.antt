@@ -2,7 +2,7 @@
 -- project's own; the rules that they follow are those of the Coq Reference Manual, "Typing rules" and
 -- "Inductive definitions").
 use Rattle.std.specs.Prelude.{ℕ, zero, suc, ◌+◌, ◌-◌, Bool, true, false, not, ◌&&◌, ◌||◌, nat_eq, if◌then◌else◌, Option, Some, None, List, [], ◌∷◌, ◌++◌, length, take, drop}
-use Rattle.cic_terms.specs.Tree.{TreeSort, prop, set, typ, own, Shape, over, Tree, rel, node, Children, no_child, child, sort, prod, lam, let_in, app, const, ind, ctor, case, fix}
+use Rattle.cic_terms.specs.Tree.{TreeSort, prop, set, typ, own, over, Tree, rel, Children, no_child, child, sort, prod, lam, let_in, app, const, ind, ctor, case, fix}
 use Rattle.cic_terms.specs.Lift.{lift_tree, subst_tree}
 use Rattle.cic_terms.specs.declared.name.GlobalId.{GlobalId}
 use Rattle.cic_terms.specs.declared.level.Level.{Level}
@@ -13,7 +13,7 @@ use Rattle.cic_rules.specs.Environment.{Environment, Context, Arity, TypeInBlock
 use Rattle.cic_rules.specs.Telescopes.{apply, head_of, arguments_of, domains_of, conclusion_of, extend, substitute_all, variables, lift_all, instantiate, Function, functions_of, function_types, function_type}
 use Rattle.cic_rules.specs.BlockTests.{is_shaped, index_count}
 use Rattle.cic_rules.specs.GuardTest.{Unguarded, guard_fault}
-use Rattle.cic_rules.specs.Outcome.{Counted, Cause, Missing, global, local, unbound, not_function, not_sort, not_inductive, bad_elimination, bad_branch_count, universe_form, unguarded, deep, ◌>>=◌, ◌>>◌, give, stop, refuse, tick, fitting, fitting_all}
+use Rattle.cic_rules.specs.Outcome.{Counted, global, local, unbound, not_function, not_sort, not_inductive, bad_elimination, bad_branch_count, universe_form, unguarded, deep, ◌>>=◌, ◌>>◌, give, stop, refuse, tick, fitting, fitting_all}
 use Rattle.cic_rules.specs.Evaluation.{plain_level, fitting_body, whnf_at, cumul_at}
 
 -- The calls one deeper.
@@ -147,9 +147,9 @@ branch_goal a parameters p c =
     let type = instantiate parameters c.type in
     let m = length (domains_of type) in
     substitute_all
-      (drop (length parameters) (arguments_of (conclusion_of type))
-        ++ apply (ctor c.id) (lift_all m parameters ++ variables m) ∷ [])
-      (lift_tree (a + 1) m p)
+    (drop (length parameters) (arguments_of (conclusion_of type))
+    ++ apply (ctor c.id) (lift_all m parameters ++ variables m) ∷ [])
+    (lift_tree (a + 1) m p)
 
 abbrev pub check_branches : Calls → Context → (a : ℕ) → (parameters : List Tree) → (motive : Tree) → List ConstructorDeclaration → Children → Counted (Unit {0})
 check_branches calls G a parameters p (c ∷ cs) (child b t ks) = do
@@ -272,12 +272,12 @@ unfoldable pub calls_at : ℕ → Environment → Calls
 calls_at zero E = record {
   infer = λ G t. stop deep;
   check = λ G t T. stop deep;
-  sort_of = λ G T. stop deep
+  sort_of = λ G T. stop deep;
 }
 calls_at (suc k) E = record {
   infer = λ G t. tick >>= λ _. infer_step (whnf_at k E) (calls_at k E) E G t;
   check = λ G t T. tick >>= λ _. check_step (cumul_at k E) (calls_at k E) G t T;
-  sort_of = λ G T. tick >>= λ _. sort_step (whnf_at k E) (calls_at k E) G T
+  sort_of = λ G T. tick >>= λ _. sort_step (whnf_at k E) (calls_at k E) G T;
 }
 
 -- The counted functions by the depth of the call, which is at most 2,001.

@@ -1,8 +1,8 @@
 -- Applications, products and abstractions in a row, and terms put in for several binders at once.
 use Rattle.std.specs.Prelude.{ℕ, zero, suc, ◌+◌, if◌then◌else◌, Option, Some, None, List, [], ◌∷◌, ◌++◌, length, take, drop}
-use Rattle.cic_terms.specs.Tree.{Shape, Binders, many, over, Tree, rel, Children, no_child, child, prod, lam, app, fix, join}
+use Rattle.cic_terms.specs.Tree.{Shape, many, over, Tree, rel, Children, no_child, child, prod, lam, app, fix, join}
 use Rattle.cic_terms.specs.Lift.{lift_tree, subst_tree}
-use Rattle.cic_rules.specs.Environment.{Context, assumed, element}
+use Rattle.cic_rules.specs.Environment.{Context, assumed}
 use Rattle.cic_rules.specs.Sameness.{same_children}
 
 -- A function applied to arguments, the first innermost.
@@ -102,8 +102,8 @@ abbrev pub function_parts : (all : ℕ) → List Function → Children
 function_parts all [] = no_child
 function_parts all (f ∷ fs) =
     join (domain_parts 0 f.domains)
-      (child (many (length f.domains)) f.codomain
-        (child (many (all + length f.domains)) f.body (function_parts all fs)))
+    (child (many (length f.domains)) f.codomain
+    (child (many (all + length f.domains)) f.body (function_parts all fs)))
 
 abbrev pub function_shapes : List Function → List Shape
 function_shapes [] = []
@@ -130,7 +130,7 @@ split_functions (s ∷ ss) ts =
       k = s.k;
       domains = take s.domains ts;
       codomain = tree_at ts s.domains;
-      body = tree_at ts (s.domains + 1)
+      body = tree_at ts (s.domains + 1);
     } ∷ split_functions ss (drop (s.domains + 2) ts)
 
 abbrev pub functions_if_parts : Children → List Function → Option (List Function)
