@@ -1,0 +1,4 @@
+pub mod Declarations
+pub mod Places
+pub mod Environments
+pub mod Verdicts

@@ -1,0 +1,10 @@
+pub mod CommandLine
+pub mod Refusals
+pub mod Compilation
+pub mod Texts
+pub mod Command
+pub mod Views
+pub mod Compiling
+pub mod Sources
+pub mod Reading
+pub mod Runs

@@ -1,0 +1,101 @@
+ghost use Rattle.std.specs.Prelude.{◌≡◌, ◌++◌, codes, IfOk};
+ghost use Rattle.cic_env.specs.Views.{items};
+ghost use Rattle.cic_terms.specs.Denotes.{tree};
+ghost use Rattle.gal_parser.specs.Views.{raw_term, sentence_of};
+ghost use Rattle.cic_top.specs.CommandLine.{IsName, source_name};
+ghost use Rattle.cic_top.specs.Compilation.{StandsFor};
+ghost use Rattle.cic_top.specs.Compiling.{AddsOrRefuses, CompilesTo, RefusesWith};
+
+use crate::answer::Refusal;
+use cic_env::{Decl, Env, PushFault, Verdict};
+use cic_io::{FileName, FileNameFault};
+use cic_kernel::check_decl;
+use cic_terms::{GlobalId, Name, NoMemory, Sort, Term};
+use gal_parser::{Command, ParseFault, Raw, parse};
+use std::alloc::Global;
+
+/// The steps that the check of a declaration may take.
+pub(crate) const DEFAULT_BUDGET: u32 = 1_000_000;
+
+/// Why a source gave no environment.
+#[derive(Drop)]
+pub(crate) enum Stop {
+    Refused(Refusal),
+    NoMemory,
+}
+
+impl From<NoMemory> for Stop {
+    ghost use Rattle.cic_top.specs.declared.compiling.Stop.TheVariants as S;
+    ghost use Rattle.std.specs.Prelude.{◌≡◌};
+
+    ghost from_gives = { λ _ e. e ≡ S.NoMemory };
+
+    fn from(_fault: NoMemory) -> Stop {
+        Stop::NoMemory
+    }
+}
+
+/// The term for which a written term stands.
+fn term_of(raw: &Raw) -> Term
+    ensures { StandsFor (raw_term raw.now) (tree result) }
+{
+    match raw {
+        Raw::Prop => Term::Sort(Sort::Prop),
+    }
+}
+
+/// Runs one sentence of the library.
+fn run_sentence(alloc: Global, library: &Name, env: &mut Env, command: &Command) -> Result<(), Stop>
+    ensures { AddsOrRefuses library.now (items env.old) (sentence_of command.now) result (items env.new) }
+{
+    let Command::Axiom { name, ty } = command;
+    let id = GlobalId { lib: library.copy()?, name: name.copy()? };
+    if env.get(&id).is_some() {
+        return Err(Stop::Refused(Refusal::Duplicate { name: name.copy()? }));
+    }
+    let decl = Decl::Axiom { id: id.copy()?, ty: term_of(ty) };
+    match check_decl(alloc, env, &decl, DEFAULT_BUDGET) {
+        Verdict::Done(_found) => match env.push(decl) {
+            Ok(()) => Ok(()),
+            Err(PushFault::Duplicate(_)) => Err(Stop::Refused(Refusal::Duplicate { name: name.copy()? })),
+            Err(PushFault::NoMemory(_)) => Err(Stop::NoMemory),
+        },
+        Verdict::Refused(cause) => Err(Stop::Refused(Refusal::Ill { id, cause })),
+        Verdict::Spent => Err(Stop::Refused(Refusal::Spent { id, budget: DEFAULT_BUDGET })),
+        Verdict::Deep => Err(Stop::Refused(Refusal::Deep { id })),
+        Verdict::NoMemory => Err(Stop::NoMemory),
+    }
+}
+
+/// The name of the source of a library.
+pub(crate) fn source_file(alloc: Global, library: &Name) -> Result<FileName, NoMemory>
+    ensures { IfOk result (λ name. name ≡ source_name library.now) }
+{
+    let Ok(text) = format!(in alloc; "{}.v", library.text()) else {
+        return Err(NoMemory);
+    };
+    match FileName::new(alloc, text.as_bytes()) {
+        Ok(name) => Ok(name),
+        Err(FileNameFault::BadName) => unreachable!(),
+        Err(FileNameFault::NoMemory) => Err(NoMemory),
+    }
+}
+
+/// Compiles the source of a library.
+pub(crate) fn compile(alloc: Global, library: &Name, source: &[u8]) -> Result<Env, Stop>
+    ensures { CompilesTo library.now source.now result }
+{
+    let commands = match parse(alloc, source) {
+        Ok(commands) => commands,
+        Err(ParseFault::NotYet { place }) => {
+            let name = source_file(alloc, library)?;
+            return Err(Stop::Refused(Refusal::NotYet { name, place }));
+        }
+        Err(ParseFault::NoMemory) => return Err(Stop::NoMemory),
+    };
+    let mut env = Env::new(alloc);
+    for command in commands.as_slice() {
+        run_sentence(alloc, library, &mut env, command)?;
+    }
+    Ok(env)
+}
