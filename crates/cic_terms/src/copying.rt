@@ -23,10 +23,10 @@ pub fn copy(alloc: Global, t: &Term) -> Result<Term, NoMemory>
 {
     match t {
         Term::Rel(n) => Ok(Term::Rel(*n)),
-        Term::Sort(s) => Ok(Term::Sort(s.copy(alloc)?)),
-        Term::Const(id) => Ok(Term::Const(id.copy(alloc)?)),
-        Term::Ind(id) => Ok(Term::Ind(id.copy(alloc)?)),
-        Term::Ctor(id) => Ok(Term::Ctor(id.copy(alloc)?)),
+        Term::Sort(s) => Ok(Term::Sort(s.copy()?)),
+        Term::Const(id) => Ok(Term::Const(id.copy()?)),
+        Term::Ind(id) => Ok(Term::Ind(id.copy()?)),
+        Term::Ctor(id) => Ok(Term::Ctor(id.copy()?)),
         Term::Prod(a, b) => Ok(Term::Prod(share(a)?, share(b)?)),
         Term::Lam(a, b) => Ok(Term::Lam(share(a)?, share(b)?)),
         Term::App(f, x) => Ok(Term::App(share(f)?, share(x)?)),
@@ -42,7 +42,7 @@ pub fn copy(alloc: Global, t: &Term) -> Result<Term, NoMemory>
             scrutinee,
             branches,
         } => Ok(Term::Case {
-            ind: ind.copy(alloc)?,
+            ind: ind.copy()?,
             arity: *arity,
             motive: share(motive)?,
             scrutinee: share(scrutinee)?,

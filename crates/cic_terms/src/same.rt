@@ -67,7 +67,9 @@ fn same_branches(a: &Branches, b: &Branches) -> bool
         return false;
     }
     for i in 0..a.items.len() {
-        if a.items[i].binders != b.items[i].binders || !same_term(&a.items[i].body, &b.items[i].body) {
+        if a.items[i].binders != b.items[i].binders
+            || !same_term(&a.items[i].body, &b.items[i].body)
+        {
             return false;
         }
     }

@@ -20,11 +20,12 @@ copy_bodies-loop-one-preserved t c =
     let n = length (out-FixBodies c.args.all.now).items.items in
     let b = c.in_ok-copy_body.field-0 in
     let rest = body_list n (drop (c.loop-one.one-index + 1) c.deref-one-items.result.now) in
-    let made = ap (body_list n) c.in_ok-add.ensures ∙ body_more n c.loop-one.items.items b in
-    (shapes_more _ _ _ _ _ _ _ c.loop-one.invariant.0 at c.in_ok-add.ensures (shape_same b c.one-item.result c.in_ok-copy_body.ensures),
-     ap (λ z. join z rest) made ∙ join_assoc (body_list n c.loop-one.items.items) (body_parts n b) rest
-     ∙ ap (λ z. join (body_list n c.loop-one.items.items) (join z rest)) (parts_same n b c.one-item.result c.in_ok-copy_body.ensures)
-     ∙ sym (ap (λ (l : List FixBody). join (body_list n c.loop-one.items.items) (body_list n l)) at) ∙ c.loop-one.invariant.1)
+    let made = ap (body_list n) c.in_ok-add.ensures ∙ body_more n c.loop-one.items.items b in (
+      shapes_more _ _ _ _ _ _ _ c.loop-one.invariant.0 at c.in_ok-add.ensures (shape_same b c.one-item.result c.in_ok-copy_body.ensures),
+      ap (λ z. join z rest) made ∙ join_assoc (body_list n c.loop-one.items.items) (body_parts n b) rest
+          ∙ ap (λ z. join (body_list n c.loop-one.items.items) (join z rest)) (parts_same n b c.one-item.result c.in_ok-copy_body.ensures)
+          ∙ sym (ap (λ (l : List FixBody). join (body_list n c.loop-one.items.items) (body_list n l)) at) ∙ c.loop-one.invariant.1,
+    )
 
 pub copy_bodies-returns : goal.copy_bodies-returns
 copy_bodies-returns t c =
@@ -62,13 +63,14 @@ pub copy_terms-loop-term-preserved : goal.copy_terms-loop-term-preserved
 copy_terms-loop-term-preserved t c =
     let at = drop_at c.deref-term-items.result.now c.loop-term.term-index c.term-item.result c.loop-term-test.true c.term-item.is in
     let i = c.loop-term.term-index in
-    let rest = term_list (i + 1) (drop (i + 1) c.deref-term-items.result.now) in
-    (rw c.in_ok-add.ensures (rw length-append (ap (λ n. n + 1) c.loop-term.invariant.0)),
-     ap (λ (l : List Term). join (term_list 0 l) rest) c.in_ok-add.ensures
-     ∙ ap (λ z. join z rest) (term_more 0 i c.loop-term.items.items c.in_ok-copy.field-0 (omega (arith, c.loop-term.invariant.0)))
-     ∙ join_assoc (term_list 0 c.loop-term.items.items) (child (many i) (tree c.in_ok-copy.field-0) no_child) rest
-     ∙ ap (λ z. join (term_list 0 c.loop-term.items.items) (child (many i) z rest)) c.in_ok-copy.ensures
-     ∙ sym (ap (λ (l : List Term). join (term_list 0 c.loop-term.items.items) (term_list i l)) at) ∙ c.loop-term.invariant.1)
+    let rest = term_list (i + 1) (drop (i + 1) c.deref-term-items.result.now) in (
+      rw c.in_ok-add.ensures (rw length-append (ap (λ n. n + 1) c.loop-term.invariant.0)),
+      ap (λ (l : List Term). join (term_list 0 l) rest) c.in_ok-add.ensures
+          ∙ ap (λ z. join z rest) (term_more 0 i c.loop-term.items.items c.in_ok-copy.field-0 (omega (arith, c.loop-term.invariant.0)))
+          ∙ join_assoc (term_list 0 c.loop-term.items.items) (child (many i) (tree c.in_ok-copy.field-0) no_child) rest
+          ∙ ap (λ z. join (term_list 0 c.loop-term.items.items) (child (many i) z rest)) c.in_ok-copy.ensures
+          ∙ sym (ap (λ (l : List Term). join (term_list 0 c.loop-term.items.items) (term_list i l)) at) ∙ c.loop-term.invariant.1,
+    )
 
 pub copy_terms-returns : goal.copy_terms-returns
 copy_terms-returns t c =

@@ -1,0 +1,125 @@
+-- Laws of the tokens: each is read in one way, takes at least a byte, and begins as it should.
+use Rattle.std.proofs.Common.{ℕ, zero, suc, Bool, true, false, cond, List, [], ◌∷◌, ◌++◌, ◌≡◌, ◌≢◌, ◌≤◌, ◌<◌, ◌+◌, ◌-◌, ◌&&◌, ◌||◌, ◌==◌, length, take, drop, refl, ap, sym, subst, ◌∙◌, arith, IsTrue, IsFalse, length-append, take-append-drop}
+use Rattle.std.specs.Prelude.{Some, slice_get}
+use Rattle.std.proofs.lemmas.Bool.Decides.{nat_tests}
+use Rattle.std.specs.Int.{is_in_range}
+use Rattle.std.specs.List.{list_all, prefix_len}
+use Rattle.gal_parser.specs.Tokens.{is_blank, after_blanks, first_passes, begins_word, continues_word, SpellsWord, is_taken, SpellsIdentifier, SpellsColon, ends_or_blank, SpellsStop}
+
+both_true : (a b : Bool) → (a && b) ≡ true → (a ≡ true) × (b ≡ true)
+both_true true true e = (refl, refl)
+both_true true false e = absurd (cc)
+both_true false b e = absurd (cc)
+
+-- two ways to cut a text where the elements of a run stop to pass are one way
+one_run : (p : ℕ → Bool) (w w' r r' : List ℕ) → w ++ r ≡ w' ++ r' → list_all p w ≡ true → list_all p w' ≡ true →
+    first_passes p r ≡ false → first_passes p r' ≡ false → (w ≡ w') × (r ≡ r')
+one_run p [] [] r r' e a a' l l' = (refl, e)
+one_run p [] (y ∷ w') r r' e a a' l l' =
+    let passes : first_passes p r ≡ p y = ap (first_passes p) e in
+    let h = (both_true (p y) (list_all p w') a').0 in absurd (cc)
+one_run p (x ∷ w) [] r r' e a a' l l' =
+    let passes : p x ≡ first_passes p r' = ap (first_passes p) e in
+    let h = (both_true (p x) (list_all p w) a).0 in absurd (cc)
+one_run p (x ∷ w) (y ∷ w') r r' e a a' l l' =
+    let tails : w ++ r ≡ w' ++ r' = (cc) in
+    let same = one_run p w w' r r' tails (both_true (p x) (list_all p w) a).1 (both_true (p y) (list_all p w') a').1 l l' in
+    let heads : x ≡ y = (cc) in
+    let front = same.0 in
+    ((cc), same.1)
+
+pub one_word : {s r r' w w' : List ℕ} → SpellsWord s r w → SpellsWord s r' w' → (w ≡ w') × (r ≡ r')
+one_word {r = r} {r' = r'} {w = w} {w' = w'} h h' =
+    one_run continues_word w w' r r' (sym h.text ∙ h'.text) h.continues h'.continues h.longest h'.longest
+
+pub one_identifier : {s r r' x x' : List ℕ} → SpellsIdentifier s r x → SpellsIdentifier s r' x' → (x ≡ x') × (r ≡ r')
+one_identifier h h' = one_word h.word h'.word
+
+pub one_colon : {s r r' : List ℕ} → SpellsColon s r → SpellsColon s r' → r ≡ r'
+one_colon h h' = let e = h.text in let e' = h'.text in (cc)
+
+pub one_stop : {s r r' : List ℕ} → SpellsStop s r → SpellsStop s r' → r ≡ r'
+one_stop h h' = let e = h.text in let e' = h'.text in (cc)
+
+-- the longest run of bytes that pass, at a text
+run_passes : (p : ℕ → Bool) (s : List ℕ) → list_all p (take (prefix_len p s) s) ≡ true
+run_passes p [] = refl
+run_passes p (x ∷ s) = run_step p x s (p x) (prefix_len p s) refl (run_passes p s) where
+  run_step : (p : ℕ → Bool) (x : ℕ) (s : List ℕ) (b : Bool) (n : ℕ) → p x ≡ b → list_all p (take n s) ≡ true → list_all p (take (cond b (1 + n) 0) (x ∷ s)) ≡ true
+  run_step p x s true n e h = let one : 1 + n ≡ suc n = omega arith in rw (one, e) h
+  run_step p x s false n e h = refl
+
+run_stops : (p : ℕ → Bool) (s : List ℕ) → first_passes p (drop (prefix_len p s) s) ≡ false
+run_stops p [] = refl
+run_stops p (x ∷ s) = stop_step p x s (p x) (prefix_len p s) refl (run_stops p s) where
+  stop_step : (p : ℕ → Bool) (x : ℕ) (s : List ℕ) (b : Bool) (n : ℕ) → p x ≡ b → first_passes p (drop n s) ≡ false → first_passes p (drop (cond b (1 + n) 0) (x ∷ s)) ≡ false
+  stop_step p x s true n e h = let one : 1 + n ≡ suc n = omega arith in rw one h
+  stop_step p x s false n e h = e
+
+begins_step : (q : ℕ → Bool) (x : ℕ) (s : List ℕ) (b : Bool) (n : ℕ) → b ≡ true → q x ≡ true → first_passes q (take (cond b (1 + n) 0) (x ∷ s)) ≡ true
+begins_step q x s true n e h = let one : 1 + n ≡ suc n = omega arith in rw one h
+begins_step q x s false n e h = absurd (cc)
+
+some_true : (d u l n q : Bool) → ((u || l) || n) ≡ true → ((((d || u) || l) || n) || q) ≡ true
+some_true true u l n q h = refl
+some_true false true l n q h = refl
+some_true false false true n q h = refl
+some_true false false false true q h = refl
+some_true false false false false q h = absurd (cc)
+
+-- what begins a word goes on with one
+first_continues : (b : ℕ) → begins_word b ≡ true → continues_word b ≡ true
+first_continues b h = some_true (is_in_range 48 57 b) (is_in_range 65 90 b) (is_in_range 97 122 b) (b == 95) (b == 39) h
+
+-- where a word may begin, the longest run is one
+pub word_from : (s : List ℕ) → first_passes begins_word s ≡ true → SpellsWord s (drop (prefix_len continues_word s) s) (take (prefix_len continues_word s) s)
+word_from [] h = absurd (cc)
+word_from (x ∷ s) h = record {
+  text = sym (take-append-drop (prefix_len continues_word (x ∷ s)) (x ∷ s));
+  begins = begins_step begins_word x s (continues_word x) (prefix_len continues_word s) (first_continues x h) h;
+  continues = run_passes continues_word (x ∷ s);
+  longest = run_stops continues_word (x ∷ s);
+}
+
+pub first_is : (p : ℕ → Bool) (s : List ℕ) (b : ℕ) → Some b ≡ slice_get s 0 → p b ≡ true → first_passes p s ≡ true
+first_is p [] b e h = absurd (cc)
+first_is p (x ∷ s) b e h = let same : b ≡ x = (cc) in subst (λ z. p z ≡ true) same h
+
+-- a word begins with what begins a word
+begins_at : (s r w : List ℕ) → s ≡ w ++ r → first_passes begins_word w ≡ true → first_passes begins_word s ≡ true
+begins_at s r [] e h = absurd (cc)
+begins_at s r (x ∷ w) e h = ap (first_passes begins_word) e ∙ h
+
+pub word_begins : {s r w : List ℕ} → SpellsWord s r w → first_passes begins_word s ≡ true
+word_begins {s = s} {r = r} {w = w} h = begins_at s r w h.text h.begins
+
+pub no_word_at_end : {s r w : List ℕ} → SpellsWord s r w → s ≡ [] → ⊥
+no_word_at_end h e = let begins = word_begins h in let nothing = ap (first_passes begins_word) e in (cc)
+
+-- how much is left
+pub blanks_shorten : (s : List ℕ) → length (after_blanks s) ≤ length s
+blanks_shorten [] = omega arith
+blanks_shorten (b ∷ s) = skip (is_blank b) (blanks_shorten s) where
+  skip : (y : Bool) → length (after_blanks s) ≤ length s → length (cond y (after_blanks s) (b ∷ s)) ≤ length (b ∷ s)
+  skip true h = omega arith
+  skip false h = omega arith
+
+shorter_at : (s r w : List ℕ) → s ≡ w ++ r → first_passes begins_word w ≡ true → length r < length s
+shorter_at s r [] e h = absurd (cc)
+shorter_at s r (x ∷ w) e h = let size = ap length e in let sum = length-append w r in omega arith
+
+pub word_shortens : {s r w : List ℕ} → SpellsWord s r w → length r < length s
+word_shortens {s = s} {r = r} {w = w} h = shorter_at s r w h.text h.begins
+
+pub colon_shortens : {s r : List ℕ} → SpellsColon s r → length r < length s
+colon_shortens h = let size = ap length h.text in omega arith
+
+pub stop_shortens : {s r : List ℕ} → SpellsStop s r → length r < length s
+stop_shortens h = let size = ap length h.text in omega arith
+
+-- the test for the end of a text
+pub some_left : (s t : List ℕ) (b : Bool) → s ≡ t → b ≡ (length s == 0) → b ≡ false → 0 < length t
+some_left s t b e test h = let size = ap length e in grind (arith, nat_tests)
+
+pub none_left : (s t : List ℕ) (b : Bool) → s ≡ t → b ≡ (length s == 0) → b ≡ true → length t ≡ 0
+none_left s t b e test h = let size = ap length e in grind (arith, nat_tests)

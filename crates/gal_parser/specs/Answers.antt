@@ -1,0 +1,33 @@
+-- What the calls of the parser answer.
+use Rattle.std.specs.Prelude.{ℕ, List, ◌≡◌, Result, Ok, Err, Option, Some, None}
+use Rattle.gal_parser.specs.Grammar.{Sentence, SpellsSentence, SpellsSentences}
+use Rattle.gal_parser.specs.declared.lexer.Fault.{Fault}
+use Rattle.gal_parser.specs.declared.lexer.Fault.TheVariants.{NoMatch, NoMemory}
+use Rattle.gal_parser.specs.declared.parser.ParseFault.{ParseFault}
+use Rattle.gal_parser.specs.declared.parser.ParseFault.TheVariants as P
+
+-- nothing is such, unless memory ran out
+abbrev pub Lacks : {Y : Type 0} → Fault → (List ℕ → Y → Type 0) → Type 0
+Lacks {Y = Y} NoMatch R = (r : List ℕ) (y : Y) → R r y → ⊥
+Lacks NoMemory R = Unit {0}
+
+-- an x of the relation was read from old to new, or old begins with none, or memory ran out
+abbrev pub Takes : {X Y : Type 0} → (List ℕ → List ℕ → Y → Type 0) → (X → Y) → Result X Fault → List ℕ → List ℕ → Type 0
+Takes R value (Ok x) old new = R old new (value x)
+Takes R value (Err e) old new = Lacks e (R old)
+
+-- a sentence was read from old to new, or old begins with none and is left
+abbrev pub TakesOrLeaves : {X : Type 0} → (X → Sentence) → Option X → List ℕ → List ℕ → Type 0
+TakesOrLeaves value (Some x) old new = SpellsSentence old new (value x)
+TakesOrLeaves value None old new = ((r : List ℕ) (c : Sentence) → SpellsSentence old r c → ⊥) × (new ≡ old)
+
+-- the sentences were read from old to new, and no further one begins there
+pub record TakesAll (old new : List ℕ) (cs : List Sentence) : Type 0 where
+  pub spelled : SpellsSentences old new cs
+  pub last : (r : List ℕ) (c : Sentence) → SpellsSentence new r c → ⊥
+
+-- the fact of the place that is answered, if one is
+abbrev pub OnNotYet : {X : Type 0} → Result X ParseFault → (ℕ → Type 0) → Type 0
+OnNotYet (Ok x) Q = Unit {0}
+OnNotYet (Err (P.NotYet place)) Q = Q place
+OnNotYet (Err P.NoMemory) Q = Unit {0}

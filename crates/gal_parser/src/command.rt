@@ -1,0 +1,65 @@
+ghost use Rattle.std.specs.Prelude.{◌≡◌, length, IsTrue, ◌↔◌, slice_get, option_copied};
+
+use cic_terms::Name;
+use std::marker::Model;
+use std::slice::Iter;
+
+/// A term as it is written, with names that are not looked up yet.
+#[derive(Debug, Drop)]
+pub enum Raw {
+    Prop,
+}
+
+/// A sentence of a source.
+#[derive(Debug, Drop)]
+pub enum Command {
+    Axiom { name: Name, ty: Raw },
+}
+
+/// The sentences of a source, in their order.
+#[derive(Debug, Drop)]
+pub struct Commands {
+    items: Vec<Command>,
+}
+
+impl Model for Commands {
+    ghost use Rattle.std.specs.Prelude.{List};
+    ghost use Rattle.gal_parser.specs.declared.command.Command.{Command};
+
+    ghost Value = { List Command };
+
+    ghost view = { λ c. c.items.items };
+}
+
+impl Commands {
+    pub(crate) fn new(items: Vec<Command>) -> Commands
+        ensures { result ≡ items.items }
+    {
+        Commands { items }
+    }
+
+    pub fn len(&self) -> usize
+        ensures { result ≡ length self.now }
+    {
+        self.items.len()
+    }
+
+    pub fn is_empty(&self) -> bool
+        ensures { IsTrue result ↔ (length self.now ≡ 0) }
+    {
+        self.items.is_empty()
+    }
+
+    /// The sentence at the place, from 0.
+    pub fn get(&self, place: usize) -> Option<&Command>
+        ensures { option_copied result ≡ slice_get self.now place }
+    {
+        self.items.get(place)
+    }
+
+    pub fn as_slice(&self) -> &[Command]
+        ensures { result.now ≡ self.now }
+    {
+        self.items.as_slice()
+    }
+}

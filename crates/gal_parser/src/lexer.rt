@@ -1,0 +1,155 @@
+//! The tokens of a source, read from the front of what is left of it.
+
+ghost use Rattle.std.specs.Prelude.{◌≡◌, ◌≤◌, ◌<◌, ◌↔◌, ◌||◌, ◌==◌, ℕ, List, length, IsTrue, IfOk, take_while};
+ghost use Rattle.std.specs.List.{prefix_len};
+ghost use Rattle.gal_parser.specs.Answers.{Takes};
+ghost use Rattle.gal_parser.specs.Tokens.{is_blank, after_blanks, begins_word, continues_word, first_passes, is_taken, ends_or_blank, SpellsWord, SpellsIdentifier, SpellsColon, SpellsStop};
+
+use std::alloc::{AllocError, AllocFailed, Global};
+
+/// Why something could not be read: what is left does not begin with it, or memory ran out.
+#[derive(Debug, Drop)]
+pub enum Fault {
+    NoMatch,
+    NoMemory,
+}
+
+impl From<AllocError> for Fault {
+    ghost use Rattle.gal_parser.specs.declared.lexer.Fault.TheVariants.{NoMemory};
+
+    ghost from_gives = { λ _ e. e ≡ NoMemory };
+
+    fn from(_: AllocError) -> Fault {
+        Fault::NoMemory
+    }
+}
+
+fn is_blank(byte: u8) -> bool
+    ensures { result ≡ is_blank byte }
+{
+    matches!(byte, b' ' | b'\t' | b'\r' | b'\n')
+}
+
+fn begins_word(byte: u8) -> bool
+    ensures { result ≡ begins_word byte }
+{
+    byte.is_ascii_alphabetic() || byte == b'_'
+}
+
+fn continues_word(byte: u8) -> bool
+    ensures { result ≡ continues_word byte }
+{
+    byte.is_ascii_alphanumeric() || byte == b'_' || byte == b'\''
+}
+
+pub fn after_blanks(text: &[u8]) -> &[u8]
+    ensures { result.now ≡ after_blanks text.now }
+{
+    let mut rest = text;
+    while let Some((first, after)) = rest.split_first() {
+        if !is_blank(*first) {
+            break;
+        }
+        rest = after;
+    }
+    rest
+}
+
+fn word_length(text: &[u8]) -> usize
+    ensures value { result ≡ prefix_len continues_word text.now }
+    ensures within { result ≤ length text.now }
+{
+    text.iter()
+        .take_while(|byte| continues_word(**byte))
+        .count()
+}
+
+fn is_taken(word: &[u8]) -> bool
+    ensures { result ≡ is_taken word.now }
+{
+    matches!(
+        word,
+        b"_" | b"Prop"
+            | b"Set"
+            | b"Type"
+            | b"forall"
+            | b"fun"
+            | b"let"
+            | b"in"
+            | b"fix"
+            | b"with"
+            | b"for"
+            | b"match"
+            | b"as"
+            | b"return"
+            | b"end"
+    )
+}
+
+/// The most bytes that an identifier may have.
+const LONGEST_NAME: usize = 255;
+
+/// What is left of a source.
+#[derive(Drop)]
+pub struct Reader<'a> {
+    pub rest: &'a [u8],
+}
+
+impl<'a> Reader<'a> {
+    pub fn word(&mut self) -> Result<&'a [u8], Fault>
+        ensures { Takes (λ s r w. SpellsWord (after_blanks s) r w) (λ w. w.now) result self.old.rest.now self.new.rest.now }
+    {
+        let text = after_blanks(self.rest);
+        match text.first() {
+            Some(first) if begins_word(*first) => {}
+            _ => return Err(Fault::NoMatch),
+        }
+        let (word, rest) = text.split_at(word_length(text));
+        self.rest = rest;
+        Ok(word)
+    }
+
+    pub fn keyword(&mut self, expected: &[u8]) -> Result<(), Fault>
+        ensures { Takes (λ s r _. SpellsWord (after_blanks s) r expected.now) (λ u. u) result self.old.rest.now self.new.rest.now }
+    {
+        if self.word()? == expected {
+            Ok(())
+        } else {
+            Err(Fault::NoMatch)
+        }
+    }
+
+    pub fn identifier(&mut self) -> Result<&'a [u8], Fault>
+        ensures { Takes (λ s r x. SpellsIdentifier (after_blanks s) r x) (λ w. w.now) result self.old.rest.now self.new.rest.now }
+    {
+        let word = self.word()?;
+        if word.len() > LONGEST_NAME || is_taken(word) {
+            return Err(Fault::NoMatch);
+        }
+        Ok(word)
+    }
+
+    pub fn colon(&mut self) -> Result<(), Fault>
+        ensures { Takes (λ s r _. SpellsColon (after_blanks s) r) (λ u. u) result self.old.rest.now self.new.rest.now }
+    {
+        match after_blanks(self.rest) {
+            [b':', rest @ ..] if rest.first() != Some(&b'=') => {
+                self.rest = rest;
+                Ok(())
+            }
+            _ => Err(Fault::NoMatch),
+        }
+    }
+
+    pub fn stop(&mut self) -> Result<(), Fault>
+        ensures { Takes (λ s r _. SpellsStop (after_blanks s) r) (λ u. u) result self.old.rest.now self.new.rest.now }
+    {
+        match after_blanks(self.rest) {
+            [b'.', rest @ ..] if rest.first().is_none_or(|byte| is_blank(*byte)) => {
+                self.rest = rest;
+                Ok(())
+            }
+            _ => Err(Fault::NoMatch),
+        }
+    }
+}

@@ -1,0 +1,106 @@
+//! Sentences and their terms, read from the tokens, and the whole source.
+
+ghost use Rattle.std.specs.Prelude.{◌≡◌, ◌≤◌, ◌<◌, ℕ, List, length, IfOk, OnOk};
+ghost use Rattle.gal_parser.specs.Answers.{Takes, TakesOrLeaves, TakesAll, OnNotYet};
+ghost use Rattle.gal_parser.specs.Grammar.{Sentence, SpellsTerm, SpellsSentence, Reads, NotYetAt};
+ghost use Rattle.gal_parser.specs.Views.{raw_term, sentence_of, sentences_of};
+
+use crate::command::{Command, Commands, Raw};
+use crate::lexer::{Fault, Reader, after_blanks};
+use cic_terms::{Name, NameFault, NoMemory};
+use std::alloc::Global;
+
+/// Why a source gives no sentences.
+#[derive(Debug, Drop)]
+pub enum ParseFault {
+    /// From this byte on the source is not understood.
+    NotYet { place: u32 },
+    NoMemory,
+}
+
+impl From<NoMemory> for ParseFault {
+    ghost use Rattle.gal_parser.specs.declared.parser.ParseFault.TheVariants as P;
+
+    ghost from_gives = { λ _ e. e ≡ P.NoMemory };
+
+    fn from(_: NoMemory) -> ParseFault {
+        ParseFault::NoMemory
+    }
+}
+
+/// The most bytes that a source may have.
+const LONGEST_SOURCE: u32 = 65536;
+
+fn term(reader: &mut Reader) -> Result<Raw, Fault>
+    ensures { Takes SpellsTerm raw_term result reader.old.rest.now reader.new.rest.now }
+{
+    reader.keyword(b"Prop")?;
+    Ok(Raw::Prop)
+}
+
+fn sentence(alloc: Global, reader: &mut Reader) -> Result<Command, Fault>
+    ensures { Takes SpellsSentence sentence_of result reader.old.rest.now reader.new.rest.now }
+{
+    reader.keyword(b"Axiom")?;
+    let name = reader.identifier()?;
+    reader.colon()?;
+    let ty = term(reader)?;
+    reader.stop()?;
+    match Name::new(alloc, name) {
+        Ok(name) => Ok(Command::Axiom { name, ty }),
+        Err(NameFault::NoMemory) => Err(Fault::NoMemory),
+        Err(_) => Err(Fault::NoMatch),
+    }
+}
+
+// The next sentence, or nothing where none begins.
+fn next_sentence(alloc: Global, reader: &mut Reader) -> Result<Option<Command>, NoMemory>
+    ensures { IfOk result (λ o. TakesOrLeaves sentence_of o reader.old.rest.now reader.new.rest.now) }
+{
+    let start = reader.rest;
+    match sentence(alloc, reader) {
+        Ok(command) => Ok(Some(command)),
+        Err(Fault::NoMatch) => {
+            reader.rest = start;
+            Ok(None)
+        }
+        Err(Fault::NoMemory) => Err(NoMemory),
+    }
+}
+
+fn sentences(alloc: Global, reader: &mut Reader) -> Result<Vec<Command>, NoMemory>
+    ensures { IfOk result (λ v. TakesAll reader.old.rest.now reader.new.rest.now (sentences_of v.items)) }
+{
+    let mut items = Vec::new(alloc);
+    while let Some(command) = next_sentence(alloc, reader)? {
+        items.push(command).map_err(|_| NoMemory)?;
+    }
+    Ok(items)
+}
+
+/// The sentences of the source.
+pub fn parse(alloc: Global, source: &[u8]) -> Result<Commands, ParseFault>
+    ensures found { IfOk result (λ c. Reads source.now (sentences_of c)) }
+    ensures only { IfOk result (λ c. (cs : List Sentence) → Reads source.now cs → sentences_of c ≡ cs) }
+    ensures all_read { OnOk result ((place : ℕ) → NotYetAt source.now place → ⊥) }
+
+    ensures fault { OnNotYet result (NotYetAt source.now) }
+    ensures one_place { OnNotYet result (λ place. (q : ℕ) → NotYetAt source.now q → q ≡ place) }
+    ensures unread { OnNotYet result (λ _. (cs : List Sentence) → Reads source.now cs → ⊥) }
+{
+    if source.len() > LONGEST_SOURCE as usize {
+        return Err(ParseFault::NotYet {
+            place: LONGEST_SOURCE,
+        });
+    }
+    let mut reader = Reader { rest: source };
+    let items = sentences(alloc, &mut reader)?;
+    let unread = after_blanks(reader.rest);
+    if unread.is_empty() {
+        Ok(Commands::new(items))
+    } else {
+        Err(ParseFault::NotYet {
+            place: (source.len() - unread.len()) as u32,
+        })
+    }
+}
