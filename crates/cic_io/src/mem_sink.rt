@@ -1,0 +1,65 @@
+use crate::call_count::CallCount;
+use crate::calls::Calls;
+use crate::counting::count_fault;
+use crate::sink::{Sink, SinkFault};
+use cic_terms::NoMemory;
+use std::alloc::Global;
+
+/// A sink in memory, which tells what was sent and fails at the calls that it is told, counted from 1.
+///
+/// A write whose own growth is refused memory fails too, and is counted.
+#[derive(Debug, Drop)]
+pub struct MemSink {
+    bytes: Vec<u8>,
+    calls: CallCount,
+}
+
+impl MemSink {
+    ghost use Rattle.std.specs.Prelude.{◌≡◌, IfOk, Some, []};
+
+    /// A sink to which nothing was sent. It takes memory only as it is written to.
+    pub fn new(alloc: Global, fail: Calls) -> Result<MemSink, NoMemory>
+        ensures sent { IfOk result (λ sink. ⟦<MemSink as Sink>⟧.sent sink ≡ Some []) }
+        ensures faults { IfOk result (λ sink. ⟦<MemSink as Sink>⟧.faults sink ≡ 0) }
+    {
+        Ok(MemSink {
+            bytes: Vec::new(alloc),
+            calls: CallCount::new(fail),
+        })
+    }
+
+    /// All that was sent.
+    pub fn sent(&self) -> &[u8]
+        ensures { ⟦<MemSink as Sink>⟧.sent self.now ≡ Some result.now }
+    {
+        self.bytes.as_slice()
+    }
+
+    /// How many writes failed; 2^64 - 1 also where it were more.
+    pub fn faults(&self) -> u64
+        ensures { result ≡ ⟦<MemSink as Sink>⟧.faults self.now }
+    {
+        self.calls.faults
+    }
+}
+
+impl Sink for MemSink {
+    ghost use Rattle.std.specs.Prelude.{Some};
+
+    ghost sent = { λ sink. Some sink.bytes.items };
+
+    ghost faults = { λ sink. sink.calls.faults };
+
+    fn write(&mut self, bytes: &[u8]) -> Result<(), SinkFault> {
+        if self.calls.next_fails() {
+            return Err(SinkFault::Failed);
+        }
+        match self.bytes.extend_from_slice(bytes) {
+            Ok(()) => Ok(()),
+            Err(_) => {
+                count_fault(&mut self.calls.faults);
+                Err(SinkFault::Failed)
+            }
+        }
+    }
+}
