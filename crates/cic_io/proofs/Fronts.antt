@@ -4,7 +4,7 @@ use Rattle.std.proofs.Math.Seq.{take-add, take-append-add}
 use Rattle.std.proofs.lemmas.List.{take-append-le, length-take-le}
 use borrow.Rule.Slice.PartMut.{put_mid, post_of}
 use Rattle.cic_io.specs.Files.{Files, bytes_of}
-use Rattle.cic_io.specs.Reading.{WholeTold, ReadTold, CountTold, Takes}
+use Rattle.cic_io.specs.Reading.{WholeTold, ReadTold, Takes}
 
 -- a list is cut at the length of a part as that part was cut
 take-length_take : (n : ℕ) (xs : List ℕ) → take (length (take n xs)) xs ≡ take n xs
@@ -22,21 +22,21 @@ take-put_mid_within a k n xs ys a_within n_within =
     ap (λ (m : ℕ). take (m + n) (put_mid a k xs ys)) (sym cut) ∙ whole ∙ ap (λ (rest : List ℕ). take a xs ++ rest) part
 
 -- a read of the next bytes makes the front longer
-pub WholeTold-more : (told : Option Files) (name : List ℕ) (a k n : ℕ) (xs old ys : List ℕ)
+pub WholeTold-more : (told : Option Files) (name : List ℕ) (a k room n : ℕ) (xs ys : List ℕ)
     → a ≤ length xs
     → n ≤ length ys
     → WholeTold told name a (take a xs)
-    → ReadTold told name a old ys n
-    → CountTold told name a old n
+    → ReadTold told name a room (take n ys)
     → WholeTold told name (a + n) (take (a + n) (put_mid a k xs ys))
-WholeTold-more None name a k n xs old ys _ _ _ _ _ = tt
-WholeTold-more (Some fs) name a k n xs old ys a_within n_within front next count =
-    let step : take (a + n) (put_mid a k xs ys) ≡ take a xs ++ take n ys = take-put_mid_within a k n xs ys a_within n_within in
-    let whole : take (a + n) (bytes_of fs name) ≡ take a (bytes_of fs name) ++ take n (drop a (bytes_of fs name))
-    = take-add a n (bytes_of fs name) in
-    let cut = take-length_take (length old) (drop a (bytes_of fs name)) in
-    let last : take n (drop a (bytes_of fs name)) ≡ take (length old) (drop a (bytes_of fs name))
-    = ap (λ (m : ℕ). take m (drop a (bytes_of fs name))) count ∙ cut in
+WholeTold-more None name a k room n xs ys _ _ _ _ = tt
+WholeTold-more (Some fs) name a k room n xs ys a_within n_within front next =
+    let file : List ℕ = bytes_of fs name in
+    let step : take (a + n) (put_mid a k xs ys) ≡ take a xs ++ take n ys
+    = take-put_mid_within a k n xs ys a_within n_within in
+    let whole : take (a + n) file ≡ take a file ++ take n (drop a file) = take-add a n file in
+    let count : n ≡ length (take room (drop a file)) = sym (length-take-le n ys n_within) ∙ ap length next in
+    let last : take n (drop a file) ≡ take room (drop a file)
+    = ap (λ (m : ℕ). take m (drop a file)) count ∙ take-length_take room (drop a file) in
     cc
 
 -- what two reads take, one after the other

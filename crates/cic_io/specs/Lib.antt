@@ -4,3 +4,5 @@ pub mod Reading
 pub mod Sending
 pub mod FileName
 pub mod NamedFile
+pub mod Calls
+pub mod Memory

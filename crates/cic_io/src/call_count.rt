@@ -1,6 +1,7 @@
-ghost use Rattle.std.specs.Prelude.{◌≡◌, ◌+◌, IsTrue, ◌↔◌, Contains, min};
+ghost use Rattle.std.specs.Prelude.{◌≡◌, IsTrue, ◌↔◌};
 ghost use Rattle.std.specs.Bool.{OnTrue, OnFalse};
-ghost use Rattle.cic_io.specs.Files.{Rose, count_end};
+ghost use Rattle.cic_io.specs.Files.{Rose};
+ghost use Rattle.cic_io.specs.Calls.{NextFails, OneMore, NoneMade};
 
 use crate::calls::Calls;
 use crate::counting::count_fault;
@@ -15,9 +16,7 @@ pub(crate) struct CallCount {
 
 impl CallCount {
     pub(crate) fn new(fail: Calls) -> CallCount
-        ensures fail { result.fail ≡ fail }
-        ensures made { result.made ≡ 0 }
-        ensures faults { result.faults ≡ 0 }
+        ensures { NoneMade result fail }
     {
         CallCount {
             fail,
@@ -28,9 +27,8 @@ impl CallCount {
 
     /// Counts the next call, and says whether it is to fail, which is counted as a fault.
     pub(crate) fn next_fails(&mut self) -> bool
-        ensures fail { self.new.fail ≡ self.old.fail }
-        ensures made { self.new.made ≡ min (self.old.made + 1) count_end }
-        ensures listed { IsTrue result ↔ Contains self.old.fail self.new.made }
+        ensures counted { OneMore self.old self.new }
+        ensures listed { IsTrue result ↔ NextFails self.old }
         ensures rose { OnTrue result (Rose self.old.faults self.new.faults) }
         ensures quiet { OnFalse result (self.new.faults ≡ self.old.faults) }
     {

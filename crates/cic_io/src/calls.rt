@@ -37,7 +37,7 @@ impl Calls {
     }
 
     /// Whether the call of that number is among them.
-    pub fn has(&self, number: u64) -> bool
+    pub(crate) fn has(&self, number: u64) -> bool
         ensures { IsTrue result ↔ Contains self.now number }
     {
         self.numbers.contains(&number)

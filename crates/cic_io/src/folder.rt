@@ -16,10 +16,10 @@ pub enum FolderFault {
 /// It may tell its files. It counts the faults of its reads, and the bytes that its reads gave; both counts
 /// stay at 2^64 - 1 once they are there.
 pub trait Folder {
-    ghost use Rattle.std.specs.Prelude.{ℕ, Option, ◌≡◌, ◌≤◌, IfOk, length};
+    ghost use Rattle.std.specs.Prelude.{ℕ, Option, ◌≡◌, ◌≤◌, IfOk, length, take};
     ghost use Rattle.cic_io.specs.Files.{Files};
     ghost use Rattle.cic_io.specs.Faults.{FailedRose, OthersQuiet};
-    ghost use Rattle.cic_io.specs.Reading.{SizeTold, ReadTold, CountTold, ReadTakes};
+    ghost use Rattle.cic_io.specs.Reading.{SizeTold, ReadTold, ReadTakes};
 
     /// The files, where the folder tells them.
     ghost files: { Self → Option Files };
@@ -45,8 +45,8 @@ pub trait Folder {
     /// in `into` behind these bytes, or after a fault, is left open.
     fn read_at(&mut self, name: &str, place: u64, into: &mut [u8]) -> Result<usize, FolderFault>
         ensures within { IfOk result (λ count. count ≤ length into.old) }
-        ensures told { IfOk result (λ count. ReadTold (files self.old) name.now place into.old into.new count) }
-        ensures count { IfOk result (λ count. CountTold (files self.old) name.now place into.old count) }
+        ensures told { IfOk result (λ count.
+            ReadTold (files self.old) name.now place (length into.old) (take count into.new)) }
         ensures failed { FailedRose result (read_faults self.old) (read_faults self.new) }
         ensures quiet { OthersQuiet result (read_faults self.old) (read_faults self.new) }
         ensures files { files self.new ≡ files self.old }

@@ -20,11 +20,13 @@ pub struct HostFolder<R> {
     taken: u64,
 }
 
-impl<R> HostFolder<R> {
+impl<R: Files<File = File>> HostFolder<R> {
+    ghost use Rattle.std.specs.Prelude.{◌≡◌};
+
     /// The folder in which the program runs, as the runtime reaches it.
     pub fn new(rt: R) -> HostFolder<R>
-        ensures faults { result.read_faults ≡ 0 }
-        ensures taken { result.taken ≡ 0 }
+        ensures faults { ⟦<HostFolder<R> as Folder>⟧.read_faults result ≡ 0 }
+        ensures taken { ⟦<HostFolder<R> as Folder>⟧.taken result ≡ 0 }
     {
         HostFolder {
             rt,

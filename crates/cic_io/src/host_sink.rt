@@ -10,12 +10,12 @@ pub struct HostSink<R> {
     faults: u64,
 }
 
-impl<R> HostSink<R> {
+impl<R: Print> HostSink<R> {
     ghost use Rattle.std.specs.Prelude.{◌≡◌};
 
     /// The standard output, as the runtime reaches it.
     pub fn new(rt: R) -> HostSink<R>
-        ensures { result.faults ≡ 0 }
+        ensures { ⟦<HostSink<R> as Sink>⟧.faults result ≡ 0 }
     {
         HostSink { rt, faults: 0 }
     }

@@ -21,10 +21,13 @@ pub struct MemFolder {
 
 impl MemFolder {
     ghost use Rattle.std.specs.Prelude.{◌≡◌, IfOk, Some};
+    ghost use Rattle.cic_io.specs.Calls.{NoneMade};
+    ghost use Rattle.cic_io.specs.Memory.{folder_calls};
 
     /// A folder of those files, of which no call was made. It takes no memory beyond what it is given.
     pub fn new(_alloc: Global, files: NamedFiles, fail: Calls) -> Result<MemFolder, NoMemory>
         ensures files { IfOk result (λ folder. ⟦<MemFolder as Folder>⟧.files folder ≡ Some files) }
+        ensures calls { IfOk result (λ folder. NoneMade (folder_calls folder) fail) }
         ensures faults { IfOk result (λ folder. ⟦<MemFolder as Folder>⟧.read_faults folder ≡ 0) }
         ensures taken { IfOk result (λ folder. ⟦<MemFolder as Folder>⟧.taken folder ≡ 0) }
     {
@@ -37,7 +40,11 @@ impl MemFolder {
 }
 
 impl Folder for MemFolder {
-    ghost use Rattle.std.specs.Prelude.{Some};
+    ghost use Rattle.std.specs.Prelude.{◌≡◌, ◌≤◌, ◌↔◌, Some, IfOk, IsErrOf, length, take};
+    ghost use Rattle.cic_io.specs.Faults.{FailedRose, OthersQuiet};
+    ghost use Rattle.cic_io.specs.Reading.{SizeTold, ReadTold, ReadTakes};
+    ghost use Rattle.cic_io.specs.Calls.{NextFails, OneMore};
+    ghost use Rattle.cic_io.specs.Memory.{folder_calls};
 
     ghost files = { λ folder. Some folder.files };
 
@@ -45,7 +52,16 @@ impl Folder for MemFolder {
 
     ghost taken = { λ folder. folder.taken };
 
-    fn size(&mut self, name: &str) -> Result<Option<u64>, FolderFault> {
+    /// Failed comes exactly at the calls that are to fail.
+    fn size(&mut self, name: &str) -> Result<Option<u64>, FolderFault>
+        ensures told { IfOk result (λ size. SizeTold (⟦<MemFolder as Folder>⟧.files self.old) name.now size) }
+        ensures failed { FailedRose result (⟦<MemFolder as Folder>⟧.read_faults self.old) (⟦<MemFolder as Folder>⟧.read_faults self.new) }
+        ensures quiet { OthersQuiet result (⟦<MemFolder as Folder>⟧.read_faults self.old) (⟦<MemFolder as Folder>⟧.read_faults self.new) }
+        ensures files { ⟦<MemFolder as Folder>⟧.files self.new ≡ ⟦<MemFolder as Folder>⟧.files self.old }
+        ensures taken { ⟦<MemFolder as Folder>⟧.taken self.new ≡ ⟦<MemFolder as Folder>⟧.taken self.old }
+        ensures fails { IsErrOf result FolderFault.Failed ↔ NextFails (folder_calls self.old) }
+        ensures counted { OneMore (folder_calls self.old) (folder_calls self.new) }
+    {
         if self.calls.next_fails() {
             return Err(FolderFault::Failed);
         }
@@ -55,7 +71,18 @@ impl Folder for MemFolder {
         }
     }
 
-    fn read_at(&mut self, name: &str, place: u64, into: &mut [u8]) -> Result<usize, FolderFault> {
+    /// Failed comes exactly at the calls that are to fail.
+    fn read_at(&mut self, name: &str, place: u64, into: &mut [u8]) -> Result<usize, FolderFault>
+        ensures within { IfOk result (λ count. count ≤ length into.old) }
+        ensures told { IfOk result (λ count.
+            ReadTold (⟦<MemFolder as Folder>⟧.files self.old) name.now place (length into.old) (take count into.new)) }
+        ensures failed { FailedRose result (⟦<MemFolder as Folder>⟧.read_faults self.old) (⟦<MemFolder as Folder>⟧.read_faults self.new) }
+        ensures quiet { OthersQuiet result (⟦<MemFolder as Folder>⟧.read_faults self.old) (⟦<MemFolder as Folder>⟧.read_faults self.new) }
+        ensures files { ⟦<MemFolder as Folder>⟧.files self.new ≡ ⟦<MemFolder as Folder>⟧.files self.old }
+        ensures taken { ReadTakes result (⟦<MemFolder as Folder>⟧.taken self.old) (⟦<MemFolder as Folder>⟧.taken self.new) }
+        ensures fails { IsErrOf result FolderFault.Failed ↔ NextFails (folder_calls self.old) }
+        ensures counted { OneMore (folder_calls self.old) (folder_calls self.new) }
+    {
         if self.calls.next_fails() {
             return Err(FolderFault::Failed);
         }
@@ -69,7 +96,6 @@ impl Folder for MemFolder {
 // Copies the bytes from a place on, as many as fit, and says how many.
 fn copy_from(bytes: &[u8], place: u64, into: &mut [u8]) -> usize
     ensures within { result ≤ length into.old }
-    ensures count { result ≡ length (bytes_from bytes.now place (length into.old)) }
     ensures front { take result into.new ≡ bytes_from bytes.now place (length into.old) }
 {
     let start = bytes.len().min(place as usize);

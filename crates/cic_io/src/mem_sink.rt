@@ -16,10 +16,13 @@ pub struct MemSink {
 
 impl MemSink {
     ghost use Rattle.std.specs.Prelude.{◌≡◌, IfOk, Some, []};
+    ghost use Rattle.cic_io.specs.Calls.{NoneMade};
+    ghost use Rattle.cic_io.specs.Memory.{sink_calls};
 
     /// A sink to which nothing was sent. It takes memory only as it is written to.
     pub fn new(alloc: Global, fail: Calls) -> Result<MemSink, NoMemory>
         ensures sent { IfOk result (λ sink. ⟦<MemSink as Sink>⟧.sent sink ≡ Some []) }
+        ensures calls { IfOk result (λ sink. NoneMade (sink_calls sink) fail) }
         ensures faults { IfOk result (λ sink. ⟦<MemSink as Sink>⟧.faults sink ≡ 0) }
     {
         Ok(MemSink {
@@ -44,13 +47,26 @@ impl MemSink {
 }
 
 impl Sink for MemSink {
-    ghost use Rattle.std.specs.Prelude.{Some};
+    ghost use Rattle.std.specs.Prelude.{◌≡◌, Some, OnOk, OnErr, IsErr};
+    ghost use Rattle.cic_io.specs.Files.{Rose};
+    ghost use Rattle.cic_io.specs.Sending.{SentAll, SentPart};
+    ghost use Rattle.cic_io.specs.Calls.{NextFails, OneMore};
+    ghost use Rattle.cic_io.specs.Memory.{sink_calls};
 
     ghost sent = { λ sink. Some sink.bytes.items };
 
     ghost faults = { λ sink. sink.calls.faults };
 
-    fn write(&mut self, bytes: &[u8]) -> Result<(), SinkFault> {
+    /// At a call that is to fail, and where memory is refused, nothing is sent.
+    fn write(&mut self, bytes: &[u8]) -> Result<(), SinkFault>
+        ensures sent { OnOk result (SentAll (⟦<MemSink as Sink>⟧.sent self.old) bytes.now (⟦<MemSink as Sink>⟧.sent self.new)) }
+        ensures part { OnErr result (SentPart (⟦<MemSink as Sink>⟧.sent self.old) bytes.now (⟦<MemSink as Sink>⟧.sent self.new)) }
+        ensures failed { OnErr result (Rose (⟦<MemSink as Sink>⟧.faults self.old) (⟦<MemSink as Sink>⟧.faults self.new)) }
+        ensures quiet { OnOk result (⟦<MemSink as Sink>⟧.faults self.new ≡ ⟦<MemSink as Sink>⟧.faults self.old) }
+        ensures unsent { OnErr result (⟦<MemSink as Sink>⟧.sent self.new ≡ ⟦<MemSink as Sink>⟧.sent self.old) }
+        ensures fails { NextFails (sink_calls self.old) → IsErr result }
+        ensures counted { OneMore (sink_calls self.old) (sink_calls self.new) }
+    {
         if self.calls.next_fails() {
             return Err(SinkFault::Failed);
         }

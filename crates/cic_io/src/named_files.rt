@@ -50,7 +50,7 @@ impl NamedFiles {
     }
 
     /// The bytes of the file of that name, if there is one.
-    pub fn get(&self, name: &str) -> Option<&[u8]>
+    pub(crate) fn get(&self, name: &str) -> Option<&[u8]>
         ensures { option_copied result ≡ file_at self.now name.now }
     {
         for file in &self.files {

@@ -1,6 +1,6 @@
 ghost use Rattle.std.specs.Prelude.{◌≡◌, ◌≤◌, IfOk, length, take};
 ghost use Rattle.cic_io.specs.Faults.{FailedRose, OthersQuiet};
-ghost use Rattle.cic_io.specs.Reading.{WholeTold, Takes, CountTold, ReadTold};
+ghost use Rattle.cic_io.specs.Reading.{WholeTold, Takes};
 
 use crate::folder::{Folder, FolderFault};
 use std::alloc::Global;

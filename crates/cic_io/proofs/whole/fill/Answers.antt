@@ -1,7 +1,7 @@
 -- One read more makes the front of the file longer, and takes its bytes.
 use Rattle.std.proofs.Common.{◌∙◌, ◌-◌, ◌≡◌, ◌≤◌, List, ℕ, ap, subst, length, take, drop, arith, Option}
 use Rattle.cic_io.specs.Files.{Files}
-use Rattle.cic_io.specs.Reading.{ReadTold, CountTold}
+use Rattle.cic_io.specs.Reading.{ReadTold}
 use Rattle.std.proofs.lemmas.List.{length-take, length-drop}
 use borrow.Rule.Slice.PartMut.{put_mid, same_len_mid}
 use Rattle.cic_io.proofs.Fronts.{WholeTold-more, Takes-more}
@@ -20,8 +20,9 @@ loop-read-preserved g c =
     = same_len_mid at room c.loop-read.into c.read_at.new.into same_part in
     record {
       within = omega (arith, length-take room (drop at c.loop-read.into), length-drop at c.loop-read.into);
-      told = WholeTold-more (g.F.Folder.files c.args.folder.now) c.args.name.now at room c.in_ok-count.count c.loop-read.into part c.read_at.new.into
-          before.within (omega arith) before.told (rw files at read.told) (rw files at read.count);
+      told =
+          WholeTold-more (g.F.Folder.files c.args.folder.now) c.args.name.now at room (length part) c.in_ok-count.count c.loop-read.into c.read_at.new.into
+          before.within (omega arith) before.told (rw files at read.told);
       quiet = read.quiet ∙ before.quiet;
       files = read.files ∙ before.files;
       taken = Takes-more _ _ _ _ _ before.taken read.taken;
