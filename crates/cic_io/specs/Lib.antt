@@ -1,0 +1,8 @@
+pub mod Files
+pub mod Faults
+pub mod Reading
+pub mod Sending
+pub mod FileName
+pub mod NamedFile
+pub mod Calls
+pub mod Memory
