@@ -8,3 +8,4 @@ pub mod BlockTests
 pub mod GuardTest
 pub mod Inference
 pub mod Checking
+pub mod Examples
