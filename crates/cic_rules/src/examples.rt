@@ -1,3 +1,5 @@
+#![tactic(auto, unfolding(crate::specs::Checking::check_declaration, crate::specs::Inference::calls_from, crate::specs::Inference::calls_at, crate::specs::Evaluation::whnf_at, crate::specs::Evaluation::cumul_at, crate::specs::Evaluation::conv_at))]
+
 ghost use Rattle.std.specs.Prelude.{◌≡◌, ℕ, [], ◌∷◌, true, None, Some, codes};
 ghost use Rattle.cic_terms.specs.Tree.{set, typ, ctor, ind, sort};
 ghost use Rattle.cic_terms.specs.declared.level.Level.TheVariants as Level;
@@ -20,7 +22,6 @@ pub fn steps_of_checks()
 {}
 
 /// Blocks of inductive types: accepted, not positive, and with an argument that is too large.
-#[tactic(auto, unfolding(crate::specs::Checking::check_declaration, crate::specs::Inference::calls_from, crate::specs::Inference::calls_at, crate::specs::Evaluation::whnf_at, crate::specs::Evaluation::cumul_at, crate::specs::Evaluation::conv_at))]
 pub fn blocks()
     ensures nat { is_accepted (check_declaration [] (inductive nat_block) 1000) ≡ true }
     ensures nat_positive { positivity_fault nat_block ≡ None }
@@ -32,7 +33,6 @@ pub fn blocks()
 {}
 
 /// Elimination of propositions, and a proof of another proposition.
-#[tactic(auto, unfolding(crate::specs::Checking::check_declaration, crate::specs::Inference::calls_from, crate::specs::Inference::calls_at, crate::specs::Evaluation::whnf_at, crate::specs::Evaluation::cumul_at, crate::specs::Evaluation::conv_at))]
 pub fn eliminations()
     ensures two_constructors { check_declaration (environment (inductive nat_block ∷ inductive two_block ∷ [])) definition_d 1000 ≡ refuses (bad_elimination (id_of (codes "two"))) }
     ensures equality { is_accepted (check_declaration (environment (inductive nat_block ∷ inductive eq_block ∷ [])) definition_e 1000) ≡ true }
@@ -40,7 +40,6 @@ pub fn eliminations()
 {}
 
 /// Guarded and unguarded fixpoints.
-#[tactic(auto, unfolding(crate::specs::Checking::check_declaration, crate::specs::Inference::calls_from, crate::specs::Inference::calls_at, crate::specs::Evaluation::whnf_at, crate::specs::Evaluation::cumul_at, crate::specs::Evaluation::conv_at))]
 pub fn fixpoints()
     ensures itself { check_declaration (environment (inductive nat_block ∷ [])) definition_f 1000 ≡ refuses (unguarded 0 1) }
     ensures first_argument { check_declaration (environment (inductive nat_block ∷ [])) (definition_g 0) 1000 ≡ refuses (unguarded 0 1) }
@@ -52,7 +51,6 @@ pub fn fixpoints()
 {}
 
 /// Theorems by evaluation, and by induction.
-#[tactic(auto, unfolding(crate::specs::Checking::check_declaration, crate::specs::Inference::calls_from, crate::specs::Inference::calls_at, crate::specs::Evaluation::whnf_at, crate::specs::Evaluation::cumul_at, crate::specs::Evaluation::conv_at))]
 pub fn theorems()
     ensures by_evaluation { is_accepted (check_declaration arithmetic definition_two 1000) ≡ true }
     ensures by_induction { is_accepted (check_declaration arithmetic theorem_plus_n_O 10000) ≡ true }
