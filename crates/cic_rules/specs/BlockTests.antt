@@ -5,7 +5,7 @@ use Rattle.cic_terms.specs.declared.name.GlobalId.{GlobalId}
 use Rattle.cic_rules.specs.Sameness.{same_id, same_tree}
 use Rattle.cic_rules.specs.Environment.{Block, TypeDeclaration, ConstructorDeclaration, bare_ids}
 use Rattle.cic_rules.specs.Telescopes.{head_of, arguments_of, domains_of, conclusion_of, variables, lift_all}
-use Rattle.cic_rules.specs.Evaluation.{plain_level}
+use Rattle.cic_rules.specs.Numbering.{plain_level}
 
 -- Whether a sort is Prop, Set or Typ of one plain level.
 abbrev pub is_plain_sort : TreeSort → Bool

@@ -1,13 +1,13 @@
 -- Worked examples: declarations of a library A, and the functions of Fixes.
-use Rattle.std.specs.Prelude.{ℕ, Bool, true, false, Option, Some, None, List, [], ◌∷◌, codes}
-use Rattle.cic_terms.specs.Tree.{TreeSort, prop, set, typ, many, Tree, rel, Children, no_child, child, sort, prod, lam, app, const, ind, ctor, case}
+use Rattle.std.specs.Prelude.{ℕ, Bool, true, false, Some, List, [], ◌∷◌, codes}
+use Rattle.cic_terms.specs.Tree.{prop, set, typ, many, Tree, rel, no_child, child, sort, prod, lam, app, const, ind, ctor, case}
 use Rattle.cic_terms.specs.declared.name.GlobalId.{GlobalId}
 use Rattle.cic_terms.specs.declared.level.Part.TheVariants.{Visible}
 use Rattle.cic_terms.specs.declared.level.Level.{Level}
-use Rattle.cic_terms.specs.declared.level.Level.TheVariants.{Set, Named}
+use Rattle.cic_terms.specs.declared.level.Level.TheVariants.{Named}
 use Rattle.cic_rules.specs.Environment.{Environment, Declaration, axiom_of, transparent, opaque, inductive, Block, TypeDeclaration, ConstructorDeclaration, declared}
 use Rattle.cic_rules.specs.Telescopes.{apply, Function, fixpoint}
-use Rattle.cic_rules.specs.Outcome.{Stopped, refused, spent, deep, Cause}
+use Rattle.cic_rules.specs.Outcome.{refused, Cause}
 use Rattle.cic_rules.specs.Checking.{Answer, accepts, rejects}
 
 -- An id of library A.
@@ -74,7 +74,7 @@ abbrev pub nat_block : Block
 nat_block = record {
   parameters = 0;
   types = type_of (codes "nat") (sort set)
-    (constructor (codes "O") nat ∷ constructor (codes "S") (prod nat nat) ∷ []) ∷ []
+      (constructor (codes "O") nat ∷ constructor (codes "S") (prod nat nat) ∷ []) ∷ [];
 }
 
 -- match n as x return motive with O => zero | S p => successor end
@@ -99,7 +99,7 @@ abbrev pub eq_block : Block
 eq_block = record {
   parameters = 2;
   types = type_of (codes "eq") (prod eq_type (prod (rel 0) (prod (rel 1) (sort prop))))
-    (constructor (codes "eq_refl") (prod eq_type (prod (rel 0) (eq (rel 1) (rel 0) (rel 0)))) ∷ []) ∷ []
+      (constructor (codes "eq_refl") (prod eq_type (prod (rel 0) (eq (rel 1) (rel 0) (rel 0)))) ∷ []) ∷ [];
 }
 
 -- plus (n m : nat) {struct n} : nat := match n return nat with O => m | S p => S (plus p m) end
@@ -108,7 +108,7 @@ plus_function = record {
   k = 0;
   domains = nat ∷ nat ∷ [];
   codomain = nat;
-  body = match_nat nat (rel 1) (rel 0) (S (apply (rel 3) (rel 0 ∷ rel 1 ∷ [])))
+  body = match_nat nat (rel 1) (rel 0) (S (apply (rel 3) (rel 0 ∷ rel 1 ∷ [])));
 }
 
 abbrev pub definition_plus : Declaration
@@ -133,11 +133,11 @@ plus_n_O_function = record {
   domains = nat ∷ [];
   codomain = eq nat (plus (rel 0) O) (rel 0);
   body = match_nat (eq nat (plus (rel 0) O) (rel 0)) (rel 0)
-    (eq_refl nat O)
-    (case (id_of (codes "eq")) 1
+      (eq_refl nat O)
+      (case (id_of (codes "eq")) 1
       (eq nat (S (plus (rel 2) O)) (S (rel 1)))
       (app (rel 2) (rel 0))
-      (child (many 0) (eq_refl nat (S (plus (rel 0) O))) no_child))
+      (child (many 0) (eq_refl nat (S (plus (rel 0) O))) no_child));
 }
 
 abbrev pub theorem_plus_n_O : Declaration
@@ -161,7 +161,7 @@ g_function k = record {
   k = k;
   domains = nat ∷ nat ∷ [];
   codomain = nat;
-  body = match_nat nat (rel 0) (rel 1) (apply (rel 3) (rel 2 ∷ rel 0 ∷ []))
+  body = match_nat nat (rel 0) (rel 1) (apply (rel 3) (rel 2 ∷ rel 0 ∷ []));
 }
 
 abbrev pub definition_g : (k : ℕ) → Declaration
@@ -175,7 +175,7 @@ abbrev pub bool_block : Block
 bool_block = record {
   parameters = 0;
   types = type_of (codes "bool") (sort set)
-    (constructor (codes "true") bool ∷ constructor (codes "false") bool ∷ []) ∷ []
+      (constructor (codes "true") bool ∷ constructor (codes "false") bool ∷ []) ∷ [];
 }
 
 -- Fixpoint even (n : nat) : bool := match n return bool with O => true | S p => odd p end
@@ -185,7 +185,7 @@ even_function = record {
   k = 0;
   domains = nat ∷ [];
   codomain = bool;
-  body = match_nat bool (rel 0) (ctor (id_of (codes "true"))) (app (rel 2) (rel 0))
+  body = match_nat bool (rel 0) (ctor (id_of (codes "true"))) (app (rel 2) (rel 0));
 }
 
 abbrev pub odd_function : Function
@@ -193,7 +193,7 @@ odd_function = record {
   k = 0;
   domains = nat ∷ [];
   codomain = bool;
-  body = match_nat bool (rel 0) (ctor (id_of (codes "false"))) (app (rel 3) (rel 0))
+  body = match_nat bool (rel 0) (ctor (id_of (codes "false"))) (app (rel 3) (rel 0));
 }
 
 abbrev pub definition_even : Declaration
@@ -208,9 +208,9 @@ forest_block =
     record {
       parameters = 0;
       types = type_of (codes "tree") (sort set) (constructor (codes "node") (prod forest tree) ∷ [])
-        ∷ type_of (codes "forest") (sort set)
+          ∷ type_of (codes "forest") (sort set)
           (constructor (codes "nil") forest ∷ constructor (codes "cons") (prod tree (prod forest forest)) ∷ [])
-        ∷ []
+          ∷ [];
     }
 
 -- Inductive bad : Set := c : (bad -> bad) -> bad.
@@ -219,7 +219,7 @@ bad_block =
     let bad = ind (id_of (codes "bad")) in
     record {
       parameters = 0;
-      types = type_of (codes "bad") (sort set) (constructor (codes "c") (prod (prod bad bad) bad) ∷ []) ∷ []
+      types = type_of (codes "bad") (sort set) (constructor (codes "c") (prod (prod bad bad) bad) ∷ []) ∷ [];
     }
 
 -- Inductive box : Set := b : Set -> box.
@@ -228,7 +228,7 @@ box_block =
     record {
       parameters = 0;
       types = type_of (codes "box") (sort set)
-        (constructor (codes "b") (prod (sort set) (ind (id_of (codes "box")))) ∷ []) ∷ []
+          (constructor (codes "b") (prod (sort set) (ind (id_of (codes "box")))) ∷ []) ∷ [];
     }
 
 -- Inductive two : Prop := l | r.
@@ -237,28 +237,28 @@ two_block =
     let two = ind (id_of (codes "two")) in
     record {
       parameters = 0;
-      types = type_of (codes "two") (sort prop) (constructor (codes "l") two ∷ constructor (codes "r") two ∷ []) ∷ []
+      types = type_of (codes "two") (sort prop) (constructor (codes "l") two ∷ constructor (codes "r") two ∷ []) ∷ [];
     }
 
 -- Definition d (h : two) : nat := match h return nat with l => O | r => S O end.
 abbrev pub definition_d : Declaration
 definition_d =
     transparent (id_of (codes "d")) (prod (ind (id_of (codes "two"))) nat)
-      (lam (ind (id_of (codes "two")))
-        (case (id_of (codes "two")) 0 nat (rel 0) (child (many 0) O (child (many 0) (S O) no_child))))
+    (lam (ind (id_of (codes "two")))
+    (case (id_of (codes "two")) 0 nat (rel 0) (child (many 0) O (child (many 0) (S O) no_child))))
 
 -- Definition e (x y : nat) (h : eq nat x y) : nat := match h return nat with eq_refl _ _ => O end.
 abbrev pub definition_e : Declaration
 definition_e =
     transparent (id_of (codes "e")) (prod nat (prod nat (prod (eq nat (rel 1) (rel 0)) nat)))
-      (lam nat (lam nat (lam (eq nat (rel 1) (rel 0))
-        (case (id_of (codes "eq")) 1 nat (rel 0) (child (many 0) O no_child)))))
+    (lam nat (lam nat (lam (eq nat (rel 1) (rel 0))
+    (case (id_of (codes "eq")) 1 nat (rel 0) (child (many 0) O no_child)))))
 
 -- Inductive True : Prop := I : True.   Inductive False : Prop := .   Theorem bad : False. Proof I.
 abbrev pub true_block : Block
 true_block = record {
   parameters = 0;
-  types = type_of (codes "True") (sort prop) (constructor (codes "I") (ind (id_of (codes "True"))) ∷ []) ∷ []
+  types = type_of (codes "True") (sort prop) (constructor (codes "I") (ind (id_of (codes "True"))) ∷ []) ∷ [];
 }
 
 abbrev pub false_block : Block

@@ -14,7 +14,8 @@ use Rattle.cic_rules.specs.Telescopes.{apply, head_of, arguments_of, domains_of,
 use Rattle.cic_rules.specs.BlockTests.{is_shaped, index_count}
 use Rattle.cic_rules.specs.GuardTest.{Unguarded, guard_fault}
 use Rattle.cic_rules.specs.Outcome.{Counted, global, local, unbound, not_function, not_sort, not_inductive, bad_elimination, bad_branch_count, universe_form, unguarded, deep, ◌>>=◌, ◌>>◌, give, stop, refuse, tick, fitting, fitting_all}
-use Rattle.cic_rules.specs.Evaluation.{plain_level, fitting_body, whnf_at, cumul_at}
+use Rattle.cic_rules.specs.Numbering.{plain_level}
+use Rattle.cic_rules.specs.Evaluation.{fitting_body, whnf_at, cumul_at}
 
 -- The calls one deeper.
 pub record Calls : Type 0 where
