@@ -1,6 +1,6 @@
 -- The guard of a Fix, on its terms as written (Coq Reference Manual, "Inductive definitions": "Fixpoint
 -- definitions" and their guard condition; the condition here is stricter and this project's own).
-use Rattle.std.specs.Prelude.{ℕ, zero, suc, ◌+◌, ◌≡◌, ◌≢◌, if◌then◌else◌, Option, Some, None, List, [], ◌∷◌, ◌++◌, length, drop, replicate}
+use Rattle.std.specs.Prelude.{ℕ, zero, suc, ◌+◌, ◌≡◌, ◌≢◌, if◌then◌else◌, Option, Some, None, List, [], ◌∷◌, ◌++◌, length, map, drop, replicate}
 use Rattle.cic_terms.specs.Tree.{Former, Binders, over, Tree, rel, node, Children, no_child, child, lam, app, ind, case}
 use Rattle.cic_terms.specs.declared.name.GlobalId.{GlobalId}
 use Rattle.cic_rules.specs.Environment.{Environment, TypeInBlock, Block, TypeDeclaration, ConstructorDeclaration, whole_block, element, bare_ids}
@@ -33,14 +33,13 @@ under_plain n marks = under_marks (replicate n plain) marks
 
 -- The marks of the arguments of a constructor of the block: an argument whose type, as written, is
 -- products and then a type of the block is smaller.
-abbrev pub argument_marks : List GlobalId → List Tree → List Mark
-argument_marks ids [] = []
-argument_marks ids (a ∷ as_) =
-    (if is_type_among ids (head_of (conclusion_of a)) then smaller else plain) ∷ argument_marks ids as_
+abbrev pub argument_mark : List GlobalId → Tree → Mark
+argument_mark ids a = if is_type_among ids (head_of (conclusion_of a)) then smaller else plain
 
 abbrev pub constructor_marks : Block → Option ConstructorDeclaration → Option (List Mark)
 constructor_marks block None = None
-constructor_marks block (Some c) = Some (argument_marks (bare_ids block.types) (drop block.parameters (domains_of c.type)))
+constructor_marks block (Some c) = 
+    Some (map (argument_mark (bare_ids block.types)) (drop block.parameters (domains_of c.type)))
 
 abbrev pub type_marks : Block → (place : ℕ) → Option TypeDeclaration → Option (List Mark)
 type_marks block place None = None
@@ -71,8 +70,7 @@ abbrev pub body_marks : (all : ℕ) → Function → Marks
 body_marks all f = under_marks (function_marks 0 all ++ domain_marks f.k (length f.domains)) all_plain
 
 abbrev pub recursive_places : List Function → List ℕ
-recursive_places [] = []
-recursive_places (f ∷ fs) = f.k ∷ recursive_places fs
+recursive_places = map (λ f. f.k)
 
 module _ (recursive : GlobalId → ℕ → Option (List Mark)) (places : List ℕ) where
   -- The smaller terms: a smaller variable; an application whose function is smaller; an abstraction whose

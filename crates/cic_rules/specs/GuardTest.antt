@@ -1,11 +1,10 @@
 -- The test of the guard of a Fix, with the first occurrence at fault.
-use Rattle.std.specs.Prelude.{ℕ, ◌+◌, Bool, true, false, ◌&&◌, ◌||◌, nat_eq, if◌then◌else◌, Option, Some, None, List, [], ◌∷◌, ◌++◌, length, replicate}
+use Rattle.std.specs.Prelude.{ℕ, ◌+◌, Bool, true, false, ◌&&◌, ◌||◌, nat_eq, if◌then◌else◌, Option, Some, None, option_map, List, [], ◌∷◌, ◌++◌, length, replicate}
 use Rattle.cic_terms.specs.Tree.{Shape, over, Tree, rel, node, Children, no_child, child, lam, app, ind, case, fix}
 use Rattle.cic_terms.specs.declared.name.GlobalId.{GlobalId}
-use Rattle.cic_rules.specs.Environment.{Environment, element}
+use Rattle.cic_rules.specs.Environment.{Environment, element, or_else}
 use Rattle.cic_rules.specs.Telescopes.{head_of, Function}
 use Rattle.cic_rules.specs.Guard.{Mark, plain, main, smaller, function, Marks, under_mark, under_marks, under_plain, recursive_marks, body_marks, recursive_places}
-use Rattle.cic_rules.specs.BlockTests.{first_fault}
 
 -- The marks of a branch with so many binders: those of the constructor's arguments where the value of
 -- the match is the recursive variable or smaller, and none otherwise.
@@ -129,14 +128,10 @@ pub record Unguarded : Type 0 where
   pub f : ℕ
   pub call : ℕ
 
-abbrev pub unguarded_at : (f : ℕ) → Option ℕ → Option Unguarded
-unguarded_at f None = None
-unguarded_at f (Some call) = Some (record { f = f; call = call })
-
 abbrev pub functions_fault : Environment → List ℕ → (all : ℕ) → (f : ℕ) → List Function → Option Unguarded
 functions_fault E places all f [] = None
 functions_fault E places all f (g ∷ gs) =
-    first_fault (unguarded_at f (function_fault E places all g)) (functions_fault E places all (f + 1) gs)
+    or_else (option_map (λ call. record { f = f; call = call }) (function_fault E places all g)) (functions_fault E places all (f + 1) gs)
 
 abbrev pub guard_fault : Environment → List Function → Option Unguarded
 guard_fault E fs = functions_fault E (recursive_places fs) (length fs) 0 fs
