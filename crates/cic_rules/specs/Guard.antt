@@ -38,7 +38,7 @@ argument_mark ids a = if is_type_among ids (head_of (conclusion_of a)) then smal
 
 abbrev pub constructor_marks : Block → Option ConstructorDeclaration → Option (List Mark)
 constructor_marks block None = None
-constructor_marks block (Some c) = 
+constructor_marks block (Some c) =
     Some (map (argument_mark (bare_ids block.types)) (drop block.parameters (domains_of c.type)))
 
 abbrev pub type_marks : Block → (place : ℕ) → Option TypeDeclaration → Option (List Mark)

@@ -75,13 +75,12 @@ pub data StrictlyPositive (ids : List GlobalId) : Tree → Type 0 where
 
 -- A constructor is strictly positive where the types are so in each of its arguments and do not occur in
 -- the indices of its conclusion; a block, where each of its constructors is.
-pub record PositiveConstructor (ids : List GlobalId) (parameters : ℕ) (type : Tree) : Type 0 where
+pub record PositiveConstructor (ids : List GlobalId) (id : GlobalId) (parameters : ℕ) (type : Tree) : Type 0 where
   pub domains : List Tree
   pub arguments : List Tree
-  pub conclusion : Tree
   pub applied_to : List Tree
   pub indices : List Tree
-  pub is_type : type ≡ products domains (products arguments (apply conclusion (applied_to ++ indices)))
+  pub is_type : type ≡ products domains (products arguments (apply (ind id) (applied_to ++ indices)))
   pub as_many_domains : length domains ≡ parameters
   pub as_many_parameters : length applied_to ≡ parameters
   pub arguments_positive : Each (StrictlyPositive ids) arguments
@@ -89,4 +88,4 @@ pub record PositiveConstructor (ids : List GlobalId) (parameters : ℕ) (type : 
 
 abbrev pub PositiveBlock : Block → Type 0
 PositiveBlock block =
-    Each (λ t. Each (λ c. PositiveConstructor (bare_ids block.types) block.parameters c.type) t.constructors) block.types
+    Each (λ t. Each (λ c. PositiveConstructor (bare_ids block.types) t.id block.parameters c.type) t.constructors) block.types

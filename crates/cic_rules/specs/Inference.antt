@@ -1,7 +1,7 @@
 -- The counted functions of typing: inference, check against a type, and the sort of a type (this
 -- project's own; the rules that they follow are those of the Coq Reference Manual, "Typing rules" and
 -- "Inductive definitions").
-use Rattle.std.specs.Prelude.{ℕ, zero, suc, ◌+◌, ◌-◌, Bool, true, false, not, ◌&&◌, ◌||◌, nat_eq, if◌then◌else◌, Option, Some, None, option_map, List, [], ◌∷◌, ◌++◌, length, take, drop}
+use Rattle.std.specs.Prelude.{ℕ, zero, suc, ◌+◌, ◌-◌, Bool, true, false, not, ◌&&◌, ◌||◌, nat_eq, if◌then◌else◌, option_map, List, [], ◌∷◌, ◌++◌, length, take, drop}
 use Rattle.std.specs.List.{list_any}
 use Rattle.cic_terms.specs.Tree.{TreeSort, prop, set, typ, own, Shape, over, Tree, rel, Children, no_child, child, sort, prod, lam, let_in, app, const, ind, ctor, case, fix}
 use Rattle.cic_terms.specs.Lift.{lift_tree, subst_tree}
@@ -10,11 +10,11 @@ use Rattle.cic_terms.specs.declared.level.Level.{Level}
 use Rattle.cic_terms.specs.declared.level.Level.TheVariants.{Set}
 use Rattle.cic_terms.specs.declared.level.Atom.{Atom}
 use Rattle.cic_rules.specs.Sameness.{same_atom, same_tree}
-use Rattle.cic_rules.specs.Environment.{Environment, Context, Arity, TypeInBlock, TypeDeclaration, ConstructorDeclaration, Constructor, constant_type, arity_of, whole_block, constructor_of, type_at, element, assumed, defined}
+use Rattle.cic_rules.specs.Environment.{Environment, Context, TypeDeclaration, ConstructorDeclaration, constant_type, arity_of, whole_block, constructor_of, type_at, element, assumed, defined}
 use Rattle.cic_rules.specs.Telescopes.{apply, head_of, arguments_of, domains_of, conclusion_of, extend, substitute_all, variables, lift_all, instantiate, Function, functions_of, function_types, function_type}
 use Rattle.cic_rules.specs.BlockTests.{is_shaped, index_count}
-use Rattle.cic_rules.specs.GuardTest.{Unguarded, guard_fault}
-use Rattle.cic_rules.specs.Outcome.{Counted, Cause, Missing, global, local, unbound, not_function, not_sort, not_inductive, bad_elimination, bad_branch_count, universe_form, unguarded, deep, ◌>>=◌, ◌>>◌, give, stop, refuse, or_refuse, require, refuse_for, tick, fitting, fitting_all}
+use Rattle.cic_rules.specs.GuardTest.{guard_fault}
+use Rattle.cic_rules.specs.Outcome.{Counted, global, local, unbound, not_function, not_sort, not_inductive, bad_elimination, bad_branch_count, universe_form, unguarded, deep, ◌>>=◌, ◌>>◌, give, stop, refuse, or_refuse, require, refuse_for, tick, fitting, fitting_all}
 use Rattle.cic_rules.specs.Numbering.{plain_level}
 use Rattle.cic_rules.specs.Evaluation.{fitting_body, whnf_at, cumul_at}
 
