@@ -1,11 +1,12 @@
 -- The tests of a block of inductive types: its shape and its positivity, each with the first place at fault.
-use Rattle.std.specs.Prelude.{ℕ, ◌+◌, ◌-◌, Bool, true, false, not, ◌&&◌, ◌||◌, nat_eq, nat_le, if◌then◌else◌, Option, Some, None, is_none, List, [], ◌∷◌, length, take, drop}
+use Rattle.std.specs.Prelude.{ℕ, ◌+◌, ◌-◌, Bool, true, false, not, ◌&&◌, ◌||◌, nat_eq, nat_le, if◌then◌else◌, Option, Some, None, is_none, option_map, List, [], ◌∷◌, length, take, drop}
+use Rattle.std.specs.List.{list_any}
 use Rattle.cic_terms.specs.Tree.{TreeSort, prop, set, typ, own, Former, ConstF, IndF, CtorF, CaseF, Tree, rel, node, Children, no_child, child, sort, prod, ind}
 use Rattle.cic_terms.specs.declared.name.GlobalId.{GlobalId}
-use Rattle.cic_rules.specs.Sameness.{same_id, same_tree}
-use Rattle.cic_rules.specs.Environment.{Block, TypeDeclaration, ConstructorDeclaration, bare_ids}
+use Rattle.cic_rules.specs.Sameness.{same_list, same_id, same_tree}
+use Rattle.cic_rules.specs.Environment.{Block, TypeDeclaration, ConstructorDeclaration, bare_ids, or_else}
 use Rattle.cic_rules.specs.Telescopes.{head_of, arguments_of, domains_of, conclusion_of, variables, lift_all}
-use Rattle.cic_rules.specs.Evaluation.{plain_level}
+use Rattle.cic_rules.specs.Numbering.{plain_level}
 
 -- Whether a sort is Prop, Set or Typ of one plain level.
 abbrev pub is_plain_sort : TreeSort → Bool
@@ -19,9 +20,7 @@ is_plain_sort_term (sort s) = is_plain_sort s
 is_plain_sort_term t = false
 
 abbrev pub same_trees : List Tree → List Tree → Bool
-same_trees [] [] = true
-same_trees (t ∷ ts) (u ∷ us) = same_tree t u && same_trees ts us
-same_trees _ _ = false
+same_trees = same_list same_tree
 
 -- The parameters' domains of a block with r parameters, as its first type has them.
 abbrev pub parameter_domains : (r : ℕ) → List TypeDeclaration → List Tree
@@ -70,20 +69,15 @@ constructor_fault r domains t index place (c ∷ cs) =
     then constructor_fault r domains t index (place + 1) cs
     else Some (bad_constructor_at index place)
 
--- The first of two faults.
-abbrev pub first_fault : {A : Type 0} → Option A → Option A → Option A
-first_fault None other = other
-first_fault (Some fault) other = Some fault
-
 abbrev pub constructors_fault : (r : ℕ) → (domains : List Tree) → (index : ℕ) → List TypeDeclaration → Option ShapeFault
 constructors_fault r domains index [] = None
 constructors_fault r domains index (t ∷ ts) =
-    first_fault (constructor_fault r domains t index 0 t.constructors) (constructors_fault r domains (index + 1) ts)
+    or_else (constructor_fault r domains t index 0 t.constructors) (constructors_fault r domains (index + 1) ts)
 
 -- The first place where a block has not the shape: arities before constructors, each in order.
 abbrev pub shape_fault : Block → Option ShapeFault
 shape_fault block =
-    first_fault
+    or_else
     (arity_fault block.parameters (parameter_domains block.parameters block.types) 0 block.types)
     (constructors_fault block.parameters (parameter_domains block.parameters block.types) 0 block.types)
 
@@ -92,8 +86,7 @@ is_shaped block = is_none (shape_fault block)
 
 -- Whether an id is among others.
 abbrev pub is_among : GlobalId → List GlobalId → Bool
-is_among id [] = false
-is_among id (other ∷ others) = same_id id other || is_among id others
+is_among id = list_any (same_id id)
 
 abbrev pub former_has : List GlobalId → Former → Bool
 former_has ids (ConstF id) = is_among id ids
@@ -113,8 +106,7 @@ abbrev mutual
   occurs_in_children ids (child b t ks) = occurs ids t || occurs_in_children ids ks
 
 abbrev pub occurs_in_any : List GlobalId → List Tree → Bool
-occurs_in_any ids [] = false
-occurs_in_any ids (t ∷ ts) = occurs ids t || occurs_in_any ids ts
+occurs_in_any ids = list_any (occurs ids)
 
 -- Whether a term is one of these types.
 abbrev pub is_type_among : List GlobalId → Tree → Bool
@@ -146,23 +138,18 @@ argument_fault ids argument (a ∷ as_) =
 abbrev pub conclusion_fault : List GlobalId → (r : ℕ) → Tree → Option ℕ
 conclusion_fault ids r conclusion = if occurs_in_any ids (drop r (arguments_of conclusion)) then Some 0 else None
 
-abbrev pub positivity_fault_at : (index place : ℕ) → Option ℕ → Option PositivityFault
-positivity_fault_at index place None = None
-positivity_fault_at index place (Some argument) =
-    Some (record { index = index; place = place; argument = argument })
-
 abbrev pub constructor_positivity_fault : List GlobalId → (r index place : ℕ) → List ConstructorDeclaration → Option PositivityFault
 constructor_positivity_fault ids r index place [] = None
 constructor_positivity_fault ids r index place (c ∷ cs) =
-    first_fault
-    (positivity_fault_at index place
-    (first_fault (argument_fault ids 1 (drop r (domains_of c.type))) (conclusion_fault ids r (conclusion_of c.type))))
+    or_else
+    (option_map (λ argument. record { index = index; place = place; argument = argument })
+    (or_else (argument_fault ids 1 (drop r (domains_of c.type))) (conclusion_fault ids r (conclusion_of c.type))))
     (constructor_positivity_fault ids r index (place + 1) cs)
 
 abbrev pub type_positivity_fault : List GlobalId → (r index : ℕ) → List TypeDeclaration → Option PositivityFault
 type_positivity_fault ids r index [] = None
 type_positivity_fault ids r index (t ∷ ts) =
-    first_fault (constructor_positivity_fault ids r index 0 t.constructors) (type_positivity_fault ids r (index + 1) ts)
+    or_else (constructor_positivity_fault ids r index 0 t.constructors) (type_positivity_fault ids r (index + 1) ts)
 
 -- The first constructor of a block that is not strictly positive.
 abbrev pub positivity_fault : Block → Option PositivityFault

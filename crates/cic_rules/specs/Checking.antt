@@ -1,13 +1,13 @@
 -- The check of one declaration (Coq Reference Manual, "Typing rules" and "Inductive definitions": the
 -- conditions under which an environment may be extended; how they are counted is this project's own).
-use Rattle.std.specs.Prelude.{ℕ, ◌-◌, if◌then◌else◌, Option, Some, None, List, [], ◌∷◌, ◌++◌, take, drop}
+use Rattle.std.specs.Prelude.{ℕ, ◌-◌, if◌then◌else◌, Option, Some, None, option_map, option_and_then, List, [], ◌∷◌, ◌++◌, take, drop}
 use Rattle.cic_terms.specs.Tree.{TreeSort, Tree, sort}
 use Rattle.cic_terms.specs.declared.name.GlobalId.{GlobalId}
 use Rattle.cic_rules.specs.Constraints.{Constraint}
 use Rattle.cic_rules.specs.Environment.{Environment, Context, Declaration, axiom_of, transparent, opaque, inductive, Block, TypeDeclaration, ConstructorDeclaration, bare, assumed, element}
 use Rattle.cic_rules.specs.Telescopes.{domains_of, conclusion_of, extend}
 use Rattle.cic_rules.specs.BlockTests.{ShapeFault, bad_arity_at, bad_constructor_at, shape_fault, PositivityFault, positivity_fault}
-use Rattle.cic_rules.specs.Outcome.{Counted, Outcome, done, stops, Stopped, Cause, bad_arity, bad_constructor, not_positive, ◌>>=◌, ◌>>◌, give, refuse}
+use Rattle.cic_rules.specs.Outcome.{Counted, Outcome, done, stops, Stopped, Cause, bad_arity, bad_constructor, not_positive, ◌>>=◌, ◌>>◌, give, or_refuse, refuse_for}
 use Rattle.cic_rules.specs.Evaluation.{sorts_at_most}
 use Rattle.cic_rules.specs.Inference.{Calls, calls_from, is_prop}
 
@@ -38,29 +38,18 @@ all_visible = do
   visible ← take_found
   give (record { visible = visible; proofs = [] })
 
--- Where the shape or the positivity of a block fails.
-abbrev pub arity_cause : Option TypeDeclaration → Counted (Unit {0})
-arity_cause None = give tt
-arity_cause (Some t) = refuse (bad_arity t.id)
+-- Why a block is refused for its shape, and for its positivity.
+abbrev pub constructor_id : Block → (index place : ℕ) → Option GlobalId
+constructor_id block index place =
+    option_and_then (λ t. option_map (λ c. c.id) (element t.constructors place)) (element block.types index)
 
-abbrev pub constructor_cause : (GlobalId → Cause) → Option ConstructorDeclaration → Counted (Unit {0})
-constructor_cause cause None = give tt
-constructor_cause cause (Some c) = refuse (cause c.id)
+abbrev pub shape_cause : Block → ShapeFault → Option Cause
+shape_cause block (bad_arity_at index) = option_map (λ t. bad_arity t.id) (element block.types index)
+shape_cause block (bad_constructor_at index place) = option_map bad_constructor (constructor_id block index place)
 
-abbrev pub constructor_cause_in : (GlobalId → Cause) → (place : ℕ) → Option TypeDeclaration → Counted (Unit {0})
-constructor_cause_in cause place None = give tt
-constructor_cause_in cause place (Some t) = constructor_cause cause (element t.constructors place)
-
-abbrev pub shaped_or_not : Block → Option ShapeFault → Counted (Unit {0})
-shaped_or_not block None = give tt
-shaped_or_not block (Some (bad_arity_at index)) = arity_cause (element block.types index)
-shaped_or_not block (Some (bad_constructor_at index place)) =
-    constructor_cause_in bad_constructor place (element block.types index)
-
-abbrev pub positive_or_not : Block → Option PositivityFault → Counted (Unit {0})
-positive_or_not block None = give tt
-positive_or_not block (Some fault) =
-    constructor_cause_in (λ id. not_positive id fault.argument) fault.place (element block.types fault.index)
+abbrev pub positivity_cause : Block → PositivityFault → Option Cause
+positivity_cause block fault =
+    option_map (λ id. not_positive id fault.argument) (constructor_id block fault.index fault.place)
 
 -- Each arity has a sort.
 abbrev pub check_arities : Calls → List TypeDeclaration → Counted (Unit {0})
@@ -88,9 +77,9 @@ ending_sort (sort s) = Some s
 ending_sort t = None
 
 abbrev pub check_constructor : Calls → (r : ℕ) → Option TreeSort → ConstructorDeclaration → Counted (Unit {0})
-check_constructor calls r None c = refuse (bad_constructor c.id)
-check_constructor calls r (Some s) c =
-    check_arguments calls (extend [] (take r (domains_of c.type))) s (drop r (domains_of c.type)) (conclusion_of c.type)
+check_constructor calls r s c = do
+  s' ← or_refuse s (bad_constructor c.id)
+  check_arguments calls (extend [] (take r (domains_of c.type))) s' (drop r (domains_of c.type)) (conclusion_of c.type)
 
 abbrev pub check_constructors : Calls → (r : ℕ) → Option TreeSort → List ConstructorDeclaration → Counted (Unit {0})
 check_constructors calls r s [] = give tt
@@ -107,9 +96,9 @@ check_types calls r (t ∷ ts) = do
 -- A block: its shape, its arities, its positivity, and its constructors over its types taken bare.
 abbrev pub check_block : Environment → Block → Counted (Unit {0})
 check_block E block = do
-  shaped_or_not block (shape_fault block)
+  refuse_for (option_and_then (shape_cause block) (shape_fault block))
   check_arities (calls_from 1 E) block.types
-  positive_or_not block (positivity_fault block)
+  refuse_for (option_and_then (positivity_cause block) (positivity_fault block))
   check_types (calls_from 1 (E ++ bare block ∷ [])) block.parameters block.types
 
 -- A declaration over the earlier ones: a type has a sort, and a body has its type. The constraints of

@@ -1,5 +1,5 @@
 -- Declarations, environments with their lookups, and contexts.
-use Rattle.std.specs.Prelude.{ℕ, zero, suc, ◌+◌, if◌then◌else◌, Option, Some, None, List, [], ◌∷◌, ◌++◌}
+use Rattle.std.specs.Prelude.{ℕ, zero, suc, ◌+◌, if◌then◌else◌, Option, Some, None, List, [], ◌∷◌, ◌++◌, map}
 use Rattle.cic_terms.specs.Tree.{Tree}
 use Rattle.cic_terms.specs.declared.name.GlobalId.{GlobalId}
 use Rattle.cic_rules.specs.Sameness.{same_id}
@@ -42,16 +42,14 @@ Environment = List Item
 
 -- The ids of a block, each type before its constructors.
 abbrev pub constructor_ids : List ConstructorDeclaration → List GlobalId
-constructor_ids [] = []
-constructor_ids (c ∷ cs) = c.id ∷ constructor_ids cs
+constructor_ids = map (λ c. c.id)
 
 abbrev pub type_ids : List TypeDeclaration → List GlobalId
 type_ids [] = []
 type_ids (t ∷ ts) = t.id ∷ (constructor_ids t.constructors ++ type_ids ts)
 
 abbrev pub bare_ids : List TypeDeclaration → List GlobalId
-bare_ids [] = []
-bare_ids (t ∷ ts) = t.id ∷ bare_ids ts
+bare_ids = map (λ t. t.id)
 
 -- The ids that a declaration declares.
 abbrev pub declared_ids : Declaration → List GlobalId

@@ -10,6 +10,7 @@ use Rattle.cic_terms.specs.declared.level.Level.{Level}
 use Rattle.cic_terms.specs.declared.level.Atom.{Atom}
 use Rattle.cic_rules.specs.Sameness.{same_id, same_atoms, same_sort, same_shapes, same_former, same_binders, same_tree}
 use Rattle.cic_rules.specs.Environment.{Environment, Context, Constructor, transparent_body, constructor_of, body_at, element, unknown, under_unknown}
+use Rattle.cic_rules.specs.Numbering.{plain_level}
 use Rattle.cic_rules.specs.Telescopes.{apply, head_of, arguments_of, abstractions, substitute_all, lift_domains, BranchParts, branch_at, Function, functions_of, function_types, unfolded}
 use Rattle.cic_rules.specs.Outcome.{Counted, mismatch, universe_form, spent, deep, ◌>>=◌, ◌>>◌, give, stop, refuse, tick, note, fitting, fitting_all}
 
@@ -125,11 +126,6 @@ whnf_at (suc k) E G t = do
 -- Two terms, in weak head form, that are not alike.
 abbrev pub differ : Context → Tree → Tree → Counted (Unit {0})
 differ G a b = refuse (mismatch (length G) a b)
-
--- The level of an expression that is one level without plus.
-abbrev pub plain_level : List Atom → Option Level
-plain_level (a ∷ []) = if a.plus then None else Some a.level
-plain_level _ = None
 
 -- Two expressions that differ: two plain levels are made equal by two constraints.
 abbrev pub equal_levels : (e e' : List Atom) → Option Level → Option Level → Counted (Unit {0})

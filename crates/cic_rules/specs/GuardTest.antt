@@ -1,60 +1,10 @@
 -- The test of the guard of a Fix, with the first occurrence at fault.
-use Rattle.std.specs.Prelude.{ℕ, zero, suc, ◌+◌, Bool, true, false, ◌&&◌, ◌||◌, nat_eq, if◌then◌else◌, Option, Some, None, List, [], ◌∷◌, ◌++◌, length, drop, replicate}
+use Rattle.std.specs.Prelude.{ℕ, ◌+◌, Bool, true, false, ◌&&◌, ◌||◌, nat_eq, if◌then◌else◌, Option, Some, None, option_map, List, [], ◌∷◌, ◌++◌, length, replicate}
 use Rattle.cic_terms.specs.Tree.{Shape, over, Tree, rel, node, Children, no_child, child, lam, app, ind, case, fix}
 use Rattle.cic_terms.specs.declared.name.GlobalId.{GlobalId}
-use Rattle.cic_rules.specs.Environment.{Environment, TypeInBlock, Block, TypeDeclaration, ConstructorDeclaration, whole_block, element, bare_ids}
-use Rattle.cic_rules.specs.Telescopes.{head_of, domains_of, conclusion_of, Function}
-use Rattle.cic_rules.specs.BlockTests.{is_among, is_type_among, first_fault}
-
--- What a variable is for the guard: the recursive variable, a smaller one, function `j`, or none of these.
-pub data Mark : Type 0 where
-  plain main smaller : Mark
-  function : (j : ℕ) → Mark
-
--- The mark of each variable, by its Rel number.
-abbrev pub Marks : Type 0
-Marks = ℕ → Mark
-
-abbrev pub all_plain : Marks
-all_plain x = plain
-
--- Under one more binder, and under several, whose marks are given with the outermost first.
-abbrev pub under_mark : Mark → Marks → Marks
-under_mark m marks zero = m
-under_mark m marks (suc x) = marks x
-
-abbrev pub under_marks : List Mark → Marks → Marks
-under_marks [] marks = marks
-under_marks (m ∷ ms) marks = under_marks ms (under_mark m marks)
-
-abbrev pub under_plain : ℕ → Marks → Marks
-under_plain n marks = under_marks (replicate n plain) marks
-
--- The marks of the arguments of a constructor of the block: an argument whose type, as written, is
--- products and then a type of the block is smaller.
-abbrev pub argument_marks : List GlobalId → List Tree → List Mark
-argument_marks ids [] = []
-argument_marks ids (a ∷ as_) =
-    (if is_type_among ids (head_of (conclusion_of a)) then smaller else plain) ∷ argument_marks ids as_
-
-abbrev pub constructor_marks : Block → Option ConstructorDeclaration → Option (List Mark)
-constructor_marks block None = None
-constructor_marks block (Some c) = Some (argument_marks (bare_ids block.types) (drop block.parameters (domains_of c.type)))
-
-abbrev pub type_marks : Block → (place : ℕ) → Option TypeDeclaration → Option (List Mark)
-type_marks block place None = None
-type_marks block place (Some t) = constructor_marks block (element t.constructors place)
-
--- Those of constructor `place` of the type that `id` names, where it is a type of the whole block of `head`.
-abbrev pub marks_in_block : GlobalId → (place : ℕ) → Option TypeInBlock → Option TypeInBlock → Option (List Mark)
-marks_in_block id place (Some of_head) (Some of_id) =
-    if is_among id (bare_ids of_head.block.types)
-    then type_marks of_id.block place (element of_id.block.types of_id.index)
-    else None
-marks_in_block id place _ _ = None
-
-abbrev pub recursive_marks : Environment → (head : GlobalId) → GlobalId → (place : ℕ) → Option (List Mark)
-recursive_marks E head id place = marks_in_block id place (whole_block E head) (whole_block E id)
+use Rattle.cic_rules.specs.Environment.{Environment, element, or_else}
+use Rattle.cic_rules.specs.Telescopes.{head_of, Function}
+use Rattle.cic_rules.specs.Guard.{Mark, plain, main, smaller, function, Marks, under_mark, under_marks, under_plain, recursive_marks, body_marks, recursive_places}
 
 -- The marks of a branch with so many binders: those of the constructor's arguments where the value of
 -- the match is the recursive variable or smaller, and none otherwise.
@@ -156,23 +106,6 @@ module _ (recursive : GlobalId → ℕ → Option (List Mark)) (places : List �
         then_walk (walk (under_plain (over b 0) marks) [] t call) (walk_chosen marks flags ks)
     walk_chosen marks (false ∷ flags) (child b t ks) call = walk_chosen marks flags ks call
 
--- The marks of the functions of a Fix, and of the domains of one of them whose recursive one is k.
-abbrev pub function_marks : (j count : ℕ) → List Mark
-function_marks j zero = []
-function_marks j (suc count) = function j ∷ function_marks (j + 1) count
-
-abbrev pub domain_marks : (k count : ℕ) → List Mark
-domain_marks k zero = []
-domain_marks zero (suc count) = main ∷ replicate count plain
-domain_marks (suc k) (suc count) = plain ∷ domain_marks k count
-
-abbrev pub body_marks : (all : ℕ) → Function → Marks
-body_marks all f = under_marks (function_marks 0 all ++ domain_marks f.k (length f.domains)) all_plain
-
-abbrev pub recursive_places : List Function → List ℕ
-recursive_places [] = []
-recursive_places (f ∷ fs) = f.k ∷ recursive_places fs
-
 -- The first call at fault in a function, 0 where its recursive domain is headed by no inductive type.
 abbrev pub failed_call : {recursive : GlobalId → ℕ → Option (List Mark)} {places : List ℕ} → Walk recursive places → Option ℕ
 failed_call (passed call) = None
@@ -195,14 +128,10 @@ pub record Unguarded : Type 0 where
   pub f : ℕ
   pub call : ℕ
 
-abbrev pub unguarded_at : (f : ℕ) → Option ℕ → Option Unguarded
-unguarded_at f None = None
-unguarded_at f (Some call) = Some (record { f = f; call = call })
-
 abbrev pub functions_fault : Environment → List ℕ → (all : ℕ) → (f : ℕ) → List Function → Option Unguarded
 functions_fault E places all f [] = None
 functions_fault E places all f (g ∷ gs) =
-    first_fault (unguarded_at f (function_fault E places all g)) (functions_fault E places all (f + 1) gs)
+    or_else (option_map (λ call. record { f = f; call = call }) (function_fault E places all g)) (functions_fault E places all (f + 1) gs)
 
 abbrev pub guard_fault : Environment → List Function → Option Unguarded
 guard_fault E fs = functions_fault E (recursive_places fs) (length fs) 0 fs

@@ -1,20 +1,22 @@
 -- The counted functions of typing: inference, check against a type, and the sort of a type (this
 -- project's own; the rules that they follow are those of the Coq Reference Manual, "Typing rules" and
 -- "Inductive definitions").
-use Rattle.std.specs.Prelude.{ℕ, zero, suc, ◌+◌, ◌-◌, Bool, true, false, not, ◌&&◌, ◌||◌, nat_eq, if◌then◌else◌, Option, Some, None, List, [], ◌∷◌, ◌++◌, length, take, drop}
-use Rattle.cic_terms.specs.Tree.{TreeSort, prop, set, typ, own, over, Tree, rel, Children, no_child, child, sort, prod, lam, let_in, app, const, ind, ctor, case, fix}
+use Rattle.std.specs.Prelude.{ℕ, zero, suc, ◌+◌, ◌-◌, Bool, true, false, not, ◌&&◌, ◌||◌, nat_eq, if◌then◌else◌, option_map, List, [], ◌∷◌, ◌++◌, length, take, drop}
+use Rattle.std.specs.List.{list_any}
+use Rattle.cic_terms.specs.Tree.{TreeSort, prop, set, typ, own, Shape, over, Tree, rel, Children, no_child, child, sort, prod, lam, let_in, app, const, ind, ctor, case, fix}
 use Rattle.cic_terms.specs.Lift.{lift_tree, subst_tree}
 use Rattle.cic_terms.specs.declared.name.GlobalId.{GlobalId}
 use Rattle.cic_terms.specs.declared.level.Level.{Level}
 use Rattle.cic_terms.specs.declared.level.Level.TheVariants.{Set}
 use Rattle.cic_terms.specs.declared.level.Atom.{Atom}
 use Rattle.cic_rules.specs.Sameness.{same_atom, same_tree}
-use Rattle.cic_rules.specs.Environment.{Environment, Context, Arity, TypeInBlock, TypeDeclaration, ConstructorDeclaration, Constructor, constant_type, arity_of, whole_block, constructor_of, type_at, element, assumed, defined}
+use Rattle.cic_rules.specs.Environment.{Environment, Context, TypeDeclaration, ConstructorDeclaration, constant_type, arity_of, whole_block, constructor_of, type_at, element, assumed, defined}
 use Rattle.cic_rules.specs.Telescopes.{apply, head_of, arguments_of, domains_of, conclusion_of, extend, substitute_all, variables, lift_all, instantiate, Function, functions_of, function_types, function_type}
 use Rattle.cic_rules.specs.BlockTests.{is_shaped, index_count}
-use Rattle.cic_rules.specs.GuardTest.{Unguarded, guard_fault}
-use Rattle.cic_rules.specs.Outcome.{Counted, global, local, unbound, not_function, not_sort, not_inductive, bad_elimination, bad_branch_count, universe_form, unguarded, deep, ◌>>=◌, ◌>>◌, give, stop, refuse, tick, fitting, fitting_all}
-use Rattle.cic_rules.specs.Evaluation.{plain_level, fitting_body, whnf_at, cumul_at}
+use Rattle.cic_rules.specs.GuardTest.{guard_fault}
+use Rattle.cic_rules.specs.Outcome.{Counted, global, local, unbound, not_function, not_sort, not_inductive, bad_elimination, bad_branch_count, universe_form, unguarded, deep, ◌>>=◌, ◌>>◌, give, stop, refuse, or_refuse, require, refuse_for, tick, fitting, fitting_all}
+use Rattle.cic_rules.specs.Numbering.{plain_level}
+use Rattle.cic_rules.specs.Evaluation.{fitting_body, whnf_at, cumul_at}
 
 -- The calls one deeper.
 pub record Calls : Type 0 where
@@ -43,45 +45,22 @@ expose whnf calls G T = do
     calls.sort_of G V
     give V)
 
--- The type of a variable, lifted, and the declared type of an id.
-abbrev pub variable_type : Option Tree → ℕ → Counted Tree
-variable_type None x = refuse (unbound (local x))
-variable_type (Some a) x = fitting (lift_tree 0 (x + 1) a)
-
-abbrev pub declared_type : GlobalId → Option Tree → Counted Tree
-declared_type id None = refuse (unbound (global id))
-declared_type id (Some a) = give a
-
-abbrev pub arity_type : Option Arity → Option Tree
-arity_type None = None
-arity_type (Some a) = Some a.type
-
-abbrev pub constructor_type : Option Constructor → Option Tree
-constructor_type None = None
-constructor_type (Some c) = Some c.type
-
 -- The type of a sort: of Prop and Set the level above Set, of a plain level the level above it.
 abbrev pub next_level : Level → TreeSort
 next_level l = typ (record { level = l; plus = true } ∷ [])
 
-abbrev pub next_of_level : TreeSort → Option Level → Counted Tree
-next_of_level s None = refuse (universe_form s s)
-next_of_level s (Some l) = give (sort (next_level l))
-
 abbrev pub type_of_sort : TreeSort → Counted Tree
 type_of_sort prop = give (sort (next_level Set))
 type_of_sort set = give (sort (next_level Set))
-type_of_sort (typ e) = next_of_level (typ e) (plain_level e)
+type_of_sort (typ e) = do
+  l ← or_refuse (plain_level e) (universe_form (typ e) (typ e))
+  give (sort (next_level l))
 type_of_sort (own i) = refuse (universe_form (own i) (own i))
 
 -- All atoms of two expressions, each once, those of the first before the others.
-abbrev pub has_atom : Atom → List Atom → Bool
-has_atom a [] = false
-has_atom a (b ∷ bs) = same_atom a b || has_atom a bs
-
 abbrev pub add_atoms : (before : List Atom) → List Atom → List Atom
 add_atoms before [] = before
-add_atoms before (a ∷ as_) = add_atoms (if has_atom a before then before else before ++ a ∷ []) as_
+add_atoms before (a ∷ as_) = add_atoms (if list_any (same_atom a) before then before else before ++ a ∷ []) as_
 
 -- The sort of a product, from those of its domain and its codomain.
 abbrev pub product_sort : (domain codomain : TreeSort) → TreeSort
@@ -92,22 +71,12 @@ product_sort s set = s
 product_sort (typ e) (typ e') = typ (add_atoms [] (e ++ e'))
 product_sort s s' = s'
 
--- The value of a match has as type the match's own type under all its parameters and indices.
-abbrev pub arguments_at : GlobalId → (count : ℕ) → Context → Tree → Counted (List Tree)
-arguments_at id count G C =
-    if same_tree (head_of C) (ind id) && nat_eq (length (arguments_of C)) count
-    then give (arguments_of C)
-    else refuse (not_inductive (length G) C)
-
 -- Whether the branches are one for each constructor, in order, each under as many binders as the
 -- constructor has arguments.
 abbrev pub are_branches : (r : ℕ) → List ConstructorDeclaration → Children → Bool
 are_branches r [] no_child = true
 are_branches r (c ∷ cs) (child b t ks) = nat_eq (over b 0) (length (domains_of c.type) - r) && are_branches r cs ks
 are_branches r _ _ = false
-
-abbrev pub declared_branches : GlobalId → Bool → Counted (Unit {0})
-declared_branches id as_declared = if as_declared then give tt else refuse (bad_branch_count id)
 
 abbrev pub is_prop : TreeSort → Bool
 is_prop prop = true
@@ -118,7 +87,8 @@ abbrev pub all_propositions : Calls → GlobalId → Context → List Tree → C
 all_propositions calls id G [] = give tt
 all_propositions calls id G (a ∷ as_) = do
   s ← calls.sort_of G a
-  if is_prop s then all_propositions calls id (assumed a ∷ G) as_ else refuse (bad_elimination id)
+  require (is_prop s) (bad_elimination id)
+  all_propositions calls id (assumed a ∷ G) as_
 
 abbrev pub eliminates_constructors : Calls → GlobalId → (r : ℕ) → List ConstructorDeclaration → Counted (Unit {0})
 eliminates_constructors calls id r [] = give tt
@@ -159,32 +129,27 @@ check_branches calls G a parameters p (c ∷ cs) (child b t ks) = do
   check_branches calls G a parameters p cs ks
 check_branches calls G a parameters p _ _ = give tt
 
--- A match on type t, which has r parameters and a indices.
+-- A match on type t, which has r parameters and a indices. The type of its value is t under all of them.
 abbrev pub infer_match : (Tree → Counted Tree) → Calls → Context → GlobalId → (n : ℕ) → (p c : Tree) → (branches : Children) → (r a : ℕ) → TypeDeclaration → Counted Tree
 infer_match whnf calls G id n p c branches r a t = do
   T ← calls.infer G c
   C ← expose whnf calls G T
-  us ← arguments_at id (r + a) G C
-  declared_branches id (nat_eq n a && are_branches r t.constructors branches)
-  indices ← fitting_all (domains_of (instantiate (take r us) t.arity))
-  parameters ← fitting_all (lift_all a (take r us))
+  require (same_tree (head_of C) (ind id) && nat_eq (length (arguments_of C)) (r + a)) (not_inductive (length G) C)
+  require (nat_eq n a && are_branches r t.constructors branches) (bad_branch_count id)
+  indices ← fitting_all (domains_of (instantiate (take r (arguments_of C)) t.arity))
+  parameters ← fitting_all (lift_all a (take r (arguments_of C)))
   s ← calls.sort_of (assumed (apply (ind id) (parameters ++ variables a)) ∷ extend G indices) p
   eliminates calls id r t s
-  check_branches calls G a (take r us) p t.constructors branches
-  fitting (substitute_all (drop r us ++ c ∷ []) p)
-
-abbrev pub infer_match_on : (Tree → Counted Tree) → Calls → Context → GlobalId → (n : ℕ) → (p c : Tree) → (branches : Children) → (r : ℕ) → Option TypeDeclaration → Counted Tree
-infer_match_on whnf calls G id n p c branches r None = refuse (unbound (global id))
-infer_match_on whnf calls G id n p c branches r (Some t) =
-    infer_match whnf calls G id n p c branches r (index_count r t) t
+  check_branches calls G a (take r (arguments_of C)) p t.constructors branches
+  fitting (substitute_all (drop r (arguments_of C) ++ c ∷ []) p)
 
 -- A match is on a type of a whole block of the right shape.
-abbrev pub infer_case : (Tree → Counted Tree) → Calls → Context → GlobalId → (n : ℕ) → (p c : Tree) → (branches : Children) → Option TypeInBlock → Counted Tree
-infer_case whnf calls G id n p c branches None = refuse (unbound (global id))
-infer_case whnf calls G id n p c branches (Some place) =
-    if is_shaped place.block
-    then infer_match_on whnf calls G id n p c branches place.block.parameters (element place.block.types place.index)
-    else refuse (unbound (global id))
+abbrev pub infer_case : (Tree → Counted Tree) → Calls → Environment → Context → GlobalId → (n : ℕ) → (p c : Tree) → (branches : Children) → Counted Tree
+infer_case whnf calls E G id n p c branches = do
+  place ← or_refuse (whole_block E id) (unbound (global id))
+  require (is_shaped place.block) (unbound (global id))
+  t ← or_refuse (element place.block.types place.index) (unbound (global id))
+  infer_match whnf calls G id n p c branches place.block.parameters (index_count place.block.parameters t) t
 
 -- Each of several types has a sort.
 abbrev pub sort_each : Calls → Context → List Tree → Counted (Unit {0})
@@ -209,27 +174,22 @@ check_bodies calls G all (f ∷ fs) = do
   calls.check G b t
   check_bodies calls G all fs
 
-abbrev pub guarded_or_not : Option Unguarded → Counted (Unit {0})
-guarded_or_not None = give tt
-guarded_or_not (Some fault) = refuse (unguarded fault.f fault.call)
-
 -- The type of function `which`. A Fix names one of its functions, and its parts are those of its
 -- functions; no term of the program is otherwise.
-abbrev pub type_of_which : ℕ → Option Function → Counted Tree
-type_of_which which None = refuse (unguarded which 0)
-type_of_which which (Some f) = give (function_type f)
-
-abbrev pub infer_fix : Calls → Environment → Context → (which : ℕ) → Option (List Function) → Counted Tree
-infer_fix calls E G which None = refuse (unguarded which 0)
-infer_fix calls E G which (Some fs) = do
+abbrev pub infer_fix : Calls → Environment → Context → (which : ℕ) → List Shape → (parts : Children) → Counted Tree
+infer_fix calls E G which shapes parts = do
+  fs ← or_refuse (functions_of shapes parts) (unguarded which 0)
+  f ← or_refuse (element fs which) (unguarded which 0)
   sort_each calls G (function_types fs)
   G' ← function_context 0 G (function_types fs)
   check_bodies calls G' (length fs) fs
-  guarded_or_not (guard_fault E fs)
-  type_of_which which (element fs which)
+  refuse_for (option_map (λ fault. unguarded fault.f fault.call) (guard_fault E fs))
+  give (function_type f)
 
 abbrev pub infer_step : (Context → Tree → Counted Tree) → Calls → Environment → Context → Tree → Counted Tree
-infer_step whnf calls E G (rel x) = variable_type (type_at G x) x
+infer_step whnf calls E G (rel x) = do
+  a ← or_refuse (type_at G x) (unbound (local x))
+  fitting (lift_tree 0 (x + 1) a)
 infer_step whnf calls E G (sort s) = type_of_sort s
 infer_step whnf calls E G (prod a b) = do
   s ← calls.sort_of G a
@@ -250,11 +210,11 @@ infer_step whnf calls E G (app f u) = do
   P ← as_product G V
   calls.check G u P.domain
   fitting (subst_tree 0 u P.codomain)
-infer_step whnf calls E G (const c) = declared_type c (constant_type E c)
-infer_step whnf calls E G (ind c) = declared_type c (arity_type (arity_of E c))
-infer_step whnf calls E G (ctor c) = declared_type c (constructor_type (constructor_of E c))
-infer_step whnf calls E G (case id n p c branches) = infer_case (whnf G) calls G id n p c branches (whole_block E id)
-infer_step whnf calls E G (fix which shapes parts) = infer_fix calls E G which (functions_of shapes parts)
+infer_step whnf calls E G (const c) = or_refuse (constant_type E c) (unbound (global c))
+infer_step whnf calls E G (ind c) = or_refuse (option_map (λ a. a.type) (arity_of E c)) (unbound (global c))
+infer_step whnf calls E G (ctor c) = or_refuse (option_map (λ k. k.type) (constructor_of E c)) (unbound (global c))
+infer_step whnf calls E G (case id n p c branches) = infer_case (whnf G) calls E G id n p c branches
+infer_step whnf calls E G (fix which shapes parts) = infer_fix calls E G which shapes parts
 infer_step whnf calls E G t = refuse (not_function (length G) t)
 
 abbrev pub check_step : (Context → Tree → Tree → Counted (Unit {0})) → Calls → Context → (term type : Tree) → Counted (Unit {0})

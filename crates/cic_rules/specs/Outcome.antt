@@ -1,6 +1,6 @@
 -- What a counted call answers, and how counted calls follow one another (this project's own: the
 -- checker counts its calls and its reduction steps against a budget).
-use Rattle.std.specs.Prelude.{ℕ, zero, suc, Bool, if◌then◌else◌, nat_le, ◌&&◌, List, [], ◌∷◌}
+use Rattle.std.specs.Prelude.{true, false, Option, Some, None, ℕ, zero, suc, Bool, if◌then◌else◌, nat_le, ◌&&◌, List, [], ◌∷◌}
 use Rattle.cic_terms.specs.Tree.{TreeSort, Tree}
 use Rattle.cic_terms.specs.Sizes.{depth_tree, max_rel}
 use Rattle.cic_terms.specs.declared.name.GlobalId.{GlobalId}
@@ -67,6 +67,20 @@ stop s = λ b. stops s
 
 abbrev pub refuse : {A : Type 0} → Cause → Counted A
 refuse c = stop (refused c)
+
+-- The value of an option, or a refusal where there is none; a refusal where a test fails; and a refusal
+-- where there is a cause.
+abbrev pub or_refuse : {A : Type 0} → Option A → Cause → Counted A
+or_refuse None cause = refuse cause
+or_refuse (Some a) cause = give a
+
+abbrev pub require : Bool → Cause → Counted (Unit {0})
+require true cause = give tt
+require false cause = refuse cause
+
+abbrev pub refuse_for : Option Cause → Counted (Unit {0})
+refuse_for None = give tt
+refuse_for (Some cause) = refuse cause
 
 -- Takes one from the rest, where there is one.
 abbrev pub spend : ℕ → List Constraint → Outcome (Unit {0})

@@ -1,5 +1,5 @@
 -- Tests of equality, which compute: names, levels, sorts and terms that are the same, part by part.
-use Rattle.std.specs.Prelude.{ℕ, Bool, true, false, ◌&&◌, nat_eq, List, [], ◌∷◌}
+use Rattle.std.specs.Prelude.{Bool, true, false, ◌&&◌, nat_eq, List, [], ◌∷◌}
 use Rattle.cic_terms.specs.Tree.{TreeSort, prop, set, typ, own, Shape, Former, SortF, ProdF, LamF, AppF, LetF, ConstF, IndF, CtorF, CaseF, FixF, Binders, none, one, many, more, Tree, rel, node, Children, no_child, child}
 use Rattle.cic_terms.specs.declared.name.GlobalId.{GlobalId}
 use Rattle.cic_terms.specs.declared.level.Part.{Part}
@@ -9,15 +9,15 @@ use Rattle.cic_terms.specs.declared.level.Level.{Level}
 use Rattle.cic_terms.specs.declared.level.Level.TheVariants.{Set, Named}
 use Rattle.cic_terms.specs.declared.level.Atom.{Atom}
 
--- The same bytes, one by one.
-abbrev pub same_bytes : List ℕ → List ℕ → Bool
-same_bytes [] [] = true
-same_bytes (x ∷ xs) (y ∷ ys) = nat_eq x y && same_bytes xs ys
-same_bytes _ _ = false
+-- Two lists of which each element is the same as that at its place in the other.
+abbrev pub same_list : {A : Type 0} → (A → A → Bool) → List A → List A → Bool
+same_list same [] [] = true
+same_list same (x ∷ xs) (y ∷ ys) = same x y && same_list same xs ys
+same_list same _ _ = false
 
 -- The same library and the same name in it.
 abbrev pub same_id : GlobalId → GlobalId → Bool
-same_id a b = same_bytes a.lib b.lib && same_bytes a.name b.name
+same_id a b = same_list nat_eq a.lib b.lib && same_list nat_eq a.name b.name
 
 abbrev pub same_part : Part → Part → Bool
 same_part Declared Declared = true
@@ -27,7 +27,7 @@ same_part _ _ = false
 
 abbrev pub same_level_name : LevelName → LevelName → Bool
 same_level_name a b =
-    same_bytes a.lib b.lib && same_bytes a.owner b.owner && same_part a.part b.part && nat_eq a.number b.number
+    same_list nat_eq a.lib b.lib && same_list nat_eq a.owner b.owner && same_part a.part b.part && nat_eq a.number b.number
 
 abbrev pub same_level : Level → Level → Bool
 same_level Set Set = true
@@ -43,9 +43,7 @@ abbrev pub same_atom : Atom → Atom → Bool
 same_atom a b = same_level a.level b.level && same_bool a.plus b.plus
 
 abbrev pub same_atoms : List Atom → List Atom → Bool
-same_atoms [] [] = true
-same_atoms (a ∷ xs) (b ∷ ys) = same_atom a b && same_atoms xs ys
-same_atoms _ _ = false
+same_atoms = same_list same_atom
 
 abbrev pub same_sort : TreeSort → TreeSort → Bool
 same_sort prop prop = true
@@ -55,9 +53,7 @@ same_sort (own i) (own j) = nat_eq i j
 same_sort _ _ = false
 
 abbrev pub same_shapes : List Shape → List Shape → Bool
-same_shapes [] [] = true
-same_shapes (a ∷ xs) (b ∷ ys) = nat_eq a.k b.k && nat_eq a.domains b.domains && same_shapes xs ys
-same_shapes _ _ = false
+same_shapes = same_list (λ a b. nat_eq a.k b.k && nat_eq a.domains b.domains)
 
 abbrev pub same_former : Former → Former → Bool
 same_former (SortF s) (SortF s') = same_sort s s'

@@ -1,5 +1,5 @@
 -- Applications, products and abstractions in a row, and terms put in for several binders at once.
-use Rattle.std.specs.Prelude.{ℕ, zero, suc, ◌+◌, if◌then◌else◌, Option, Some, None, List, [], ◌∷◌, ◌++◌, length, take, drop}
+use Rattle.std.specs.Prelude.{ℕ, zero, suc, ◌+◌, if◌then◌else◌, Option, Some, None, List, [], ◌∷◌, ◌++◌, length, map, take, drop}
 use Rattle.cic_terms.specs.Tree.{Shape, many, over, Tree, rel, Children, no_child, child, prod, lam, app, fix, join}
 use Rattle.cic_terms.specs.Lift.{lift_tree, subst_tree}
 use Rattle.cic_rules.specs.Environment.{Context, assumed}
@@ -54,8 +54,7 @@ variables (suc n) = rel n ∷ variables n
 
 -- Each term lifted past n binders.
 abbrev pub lift_all : ℕ → List Tree → List Tree
-lift_all n [] = []
-lift_all n (u ∷ us) = lift_tree 0 n u ∷ lift_all n us
+lift_all n = map (lift_tree 0 n)
 
 -- Each domain lifted past n binders that stand outside all of them; the first stands under `place`
 -- binders of its own.
@@ -106,8 +105,7 @@ function_parts all (f ∷ fs) =
     (child (many (all + length f.domains)) f.body (function_parts all fs)))
 
 abbrev pub function_shapes : List Function → List Shape
-function_shapes [] = []
-function_shapes (f ∷ fs) = record { k = f.k; domains = length f.domains } ∷ function_shapes fs
+function_shapes = map (λ f. record { k = f.k; domains = length f.domains })
 
 -- Function `which` of a Fix with these functions.
 abbrev pub fixpoint : (which : ℕ) → List Function → Tree
@@ -144,16 +142,14 @@ abbrev pub function_type : Function → Tree
 function_type f = products f.domains f.codomain
 
 abbrev pub function_types : List Function → List Tree
-function_types [] = []
-function_types (f ∷ fs) = function_type f ∷ function_types fs
+function_types = map function_type
 
 -- The full body of a function, under all functions of its Fix, of which there are `all`.
 abbrev pub full_body : (all : ℕ) → Function → Tree
 full_body all f = abstractions (lift_domains 0 all f.domains) f.body
 
 abbrev pub full_bodies : (all : ℕ) → List Function → List Tree
-full_bodies all [] = []
-full_bodies all (f ∷ fs) = full_body all f ∷ full_bodies all fs
+full_bodies all = map (full_body all)
 
 -- `count` functions of a Fix, from function `which` on, each as a term.
 abbrev pub each_fixpoint : (count which : ℕ) → List Function → List Tree
