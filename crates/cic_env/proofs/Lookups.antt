@@ -7,14 +7,14 @@ use Rattle.std.specs.Cmp.{first_so, second_so}
 use Rattle.std.proofs.lemmas.List.Elements.{Contains-append_left, Contains-append_right, Contains-append_cases}
 use Rattle.cic_terms.specs.Denotes.{tree}
 use Rattle.cic_terms.specs.declared.name.GlobalId.{GlobalId}
-use Rattle.cic_rules.specs.Sameness.{same_id, same_bytes}
+use Rattle.cic_rules.specs.Sameness.{same_id, same_list}
 use Rattle.cic_rules.specs.Environment.{meaning, constant, or_else, environment_ids, declared_ids}
 use Rattle.cic_env.specs.Declarations.{declaration, decl_id, decl_meaning, environment, item}
 use Rattle.cic_env.specs.Places.{place_from, place_of, first_or}
 use Rattle.cic_env.specs.declared.declaration.Decl.{Decl}
 use Rattle.cic_env.specs.declared.declaration.Decl.TheVariants.{Axiom}
 
-pub same_bytes-pointwise : (xs ys : List ℕ) → same_bytes xs ys ≡ pointwise nat_eq xs ys
+pub same_bytes-pointwise : (xs ys : List ℕ) → same_list nat_eq xs ys ≡ pointwise nat_eq xs ys
 same_bytes-pointwise [] [] = refl
 same_bytes-pointwise [] (y ∷ ys) = refl
 same_bytes-pointwise (x ∷ xs) [] = refl
@@ -27,16 +27,16 @@ id_eq a b = pointwise nat_eq a.lib b.lib && pointwise nat_eq a.name b.name
 pub id_eq-same_id : (a b : GlobalId) → id_eq a b ≡ same_id a b
 id_eq-same_id a b = rw (same_bytes-pointwise a.lib b.lib, same_bytes-pointwise a.name b.name) refl
 
-pub same_bytes-true : (xs ys : List ℕ) → same_bytes xs ys ≡ true → xs ≡ ys
+pub same_bytes-true : (xs ys : List ℕ) → same_list nat_eq xs ys ≡ true → xs ≡ ys
 same_bytes-true xs ys h = (bytes_decides xs ys).0 (sym (same_bytes-pointwise xs ys) ∙ h)
 
-pub same_bytes-refl : (xs : List ℕ) → same_bytes xs xs ≡ true
+pub same_bytes-refl : (xs : List ℕ) → same_list nat_eq xs xs ≡ true
 same_bytes-refl xs = same_bytes-pointwise xs xs ∙ (bytes_decides xs xs).1 refl
 
 pub same_id-true : (a b : GlobalId) → same_id a b ≡ true → a ≡ b
 same_id-true a b h =
-    let libs = same_bytes-true a.lib b.lib (first_so (same_bytes a.lib b.lib) (same_bytes a.name b.name) h) in
-    let names = same_bytes-true a.name b.name (second_so (same_bytes a.lib b.lib) (same_bytes a.name b.name) h) in
+    let libs = same_bytes-true a.lib b.lib (first_so (same_list nat_eq a.lib b.lib) (same_list nat_eq a.name b.name) h) in
+    let names = same_bytes-true a.name b.name (second_so (same_list nat_eq a.lib b.lib) (same_list nat_eq a.name b.name) h) in
     λ i. record { lib = libs i; name = names i }
 
 pub same_id-refl : (a : GlobalId) → same_id a a ≡ true
