@@ -79,7 +79,7 @@ pub(crate) fn leaf_sort(alloc: Global, s: &Sort, room: u32) -> Result<Term, Term
     requires { 1 ≤ room }
     ensures { Makes room (sort (tree_sort s.now)) result }
 {
-    Ok(Term::Sort(copy_sort(alloc, s)?))
+    Ok(Term::Sort(copy_sort(s)?))
 }
 
 #[inline(never)]
@@ -87,7 +87,7 @@ pub(crate) fn leaf_const(alloc: Global, id: &GlobalId, room: u32) -> Result<Term
     requires { 1 ≤ room }
     ensures { Makes room (const id.now) result }
 {
-    Ok(Term::Const(copy_id(alloc, id)?))
+    Ok(Term::Const(copy_id(id)?))
 }
 
 #[inline(never)]
@@ -95,7 +95,7 @@ pub(crate) fn leaf_ind(alloc: Global, id: &GlobalId, room: u32) -> Result<Term, 
     requires { 1 ≤ room }
     ensures { Makes room (ind id.now) result }
 {
-    Ok(Term::Ind(copy_id(alloc, id)?))
+    Ok(Term::Ind(copy_id(id)?))
 }
 
 #[inline(never)]
@@ -103,7 +103,7 @@ pub(crate) fn leaf_ctor(alloc: Global, id: &GlobalId, room: u32) -> Result<Term,
     requires { 1 ≤ room }
     ensures { Makes room (ctor id.now) result }
 {
-    Ok(Term::Ctor(copy_id(alloc, id)?))
+    Ok(Term::Ctor(copy_id(id)?))
 }
 
 #[cycle(lift)]
@@ -148,25 +148,28 @@ pub(crate) fn lift_at(
             Ok(Term::App(f, x))
         }
         Term::Case {
-            ind,
             arity,
+            ind,
             motive,
             scrutinee,
             branches,
         } => {
             let motive = lift_shared(alloc, motive, from, *arity as usize + 1, by, room - 1)?;
             let scrutinee = lift_shared(alloc, scrutinee, from, 0, by, room - 1)?;
-            let branches = lift_all_branches(alloc, branches, from, by, room - 1)?;
+            let branches = shared(
+                alloc,
+                lift_all_branches(alloc, branches, from, by, room - 1)?,
+            )?;
             Ok(Term::Case {
-                ind: copy_id(alloc, ind)?,
                 arity: *arity,
+                ind: copy_id(ind)?,
                 motive,
                 scrutinee,
                 branches,
             })
         }
         Term::Fix { which, bodies } => {
-            let bodies = lift_all_bodies(alloc, bodies, from, by, room - 1)?;
+            let bodies = shared(alloc, lift_all_bodies(alloc, bodies, from, by, room - 1)?)?;
             Ok(Term::Fix {
                 which: *which,
                 bodies,

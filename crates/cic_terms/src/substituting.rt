@@ -86,25 +86,28 @@ pub(crate) fn subst_at(
             Ok(Term::App(f, x))
         }
         Term::Case {
-            ind,
             arity,
+            ind,
             motive,
             scrutinee,
             branches,
         } => {
             let motive = subst_shared(alloc, motive, at + (*arity as u128 + 1), with, room - 1)?;
             let scrutinee = subst_shared(alloc, scrutinee, at, with, room - 1)?;
-            let branches = subst_all_branches(alloc, branches, at, with, room - 1)?;
+            let branches = shared(
+                alloc,
+                subst_all_branches(alloc, branches, at, with, room - 1)?,
+            )?;
             Ok(Term::Case {
-                ind: copy_id(alloc, ind)?,
                 arity: *arity,
+                ind: copy_id(ind)?,
                 motive,
                 scrutinee,
                 branches,
             })
         }
         Term::Fix { which, bodies } => {
-            let bodies = subst_all_bodies(alloc, bodies, at, with, room - 1)?;
+            let bodies = shared(alloc, subst_all_bodies(alloc, bodies, at, with, room - 1)?)?;
             Ok(Term::Fix {
                 which: *which,
                 bodies,

@@ -4,7 +4,7 @@ use Rattle.cic_terms.specs.declared.term.FixBodies.{out-FixBodies}
 use Rattle.cic_terms.proofs.Children.{drop_at}
 use Rattle.cic_terms.proofs.Rows.{branches-out}
 use Rattle.cic_terms.proofs.Sameness.{branches_length, same_bodies_length, trees_length, differ, same_whole, same_cons, same_head}
-use Rattle.cic_terms.proofs.same.+same.Goals as goal
+use Rattle.cic_terms.proofs.comparing.+same.Goals as goal
 
 pub same_bodies-returns-then-len : goal.same_bodies-returns-then-len
 same_bodies-returns-then-len t c =
