@@ -1,1 +1,2 @@
 pub mod NotVoid
+pub mod ByHand

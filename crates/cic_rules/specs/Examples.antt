@@ -266,3 +266,22 @@ false_block = record { parameters = 0; types = type_of (codes "False") (sort pro
 
 abbrev pub theorem_bad : Declaration
 theorem_bad = opaque (id_of (codes "bad")) (ind (id_of (codes "False"))) (Some (ctor (id_of (codes "I"))))
+
+-- Definition N : Set := nat.
+abbrev pub N : Tree
+N = const (id_of (codes "N"))
+
+abbrev pub definition_N : Declaration
+definition_N = transparent (id_of (codes "N")) (sort set) nat
+
+-- fix zero (n : nat) {struct n} : N := match n return N with O => O | S p => zero p end
+abbrev pub zero_function : Function
+zero_function = record {
+  k = 0;
+  domains = nat ∷ [];
+  codomain = N;
+  body = match_nat N (rel 0) O (app (rel 2) (rel 0));
+}
+
+abbrev pub with_N : Environment
+with_N = environment (inductive nat_block ∷ inductive eq_block ∷ definition_N ∷ [])

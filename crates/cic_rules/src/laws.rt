@@ -5,13 +5,13 @@ ghost use Rattle.cic_terms.specs.declared.level.LevelName.{LevelName};
 ghost use Rattle.cic_terms.specs.declared.level.Level.TheVariants as Level;
 ghost use Rattle.cic_rules.specs.Numbering.{Numbering, IsNumbering, Meets, sort_number};
 ghost use Rattle.cic_rules.specs.Environment.{Environment, Context, TypeDeclaration, ConstructorDeclaration, opaque, declared};
-ghost use Rattle.cic_rules.specs.Telescopes.{products};
+ghost use Rattle.cic_rules.specs.Telescopes.{fixpoint, products};
 ghost use Rattle.cic_rules.specs.Step.{Step};
 ghost use Rattle.cic_rules.specs.Conversion.{Convertible, AtMost};
 ghost use Rattle.cic_rules.specs.Inductive.{PositiveBlock};
 ghost use Rattle.cic_rules.specs.Guard.{Guarded};
-ghost use Rattle.cic_rules.specs.Typing.{Eliminated};
-ghost use Rattle.cic_rules.specs.Examples.{bad_block, f_function};
+ghost use Rattle.cic_rules.specs.Typing.{Derivation, Eliminated};
+ghost use Rattle.cic_rules.specs.Examples.{bad_block, f_function, N, nat, with_N, zero_function};
 
 /// Sorts with different numbers are not convertible; so two universes with different numbers are not.
 pub fn convertible_sorts_have_one_number()
@@ -47,4 +47,9 @@ pub fn opaque_takes_no_step()
 /// A named level is above `Set` at every numbering.
 pub fn named_levels_are_above_set()
     ensures { (N : Numbering) (l : LevelName) → IsNumbering N → Meets N (record { left = Level.Set; strict = true; right = Level.Named l }) }
+{}
+
+/// A derivation of the rules: a fixpoint with a match, whose codomain is unfolded.
+pub fn fixpoint_is_derivable()
+    ensures { Derivation with_N [] [] (fixpoint 0 (zero_function ∷ [])) (prod nat N) }
 {}
