@@ -3,8 +3,9 @@
 ghost use Rattle.std.specs.Prelude.{◌≡◌, ◌≤◌, ◌<◌, ◌↔◌, ◌||◌, ◌==◌, ℕ, List, length, IsTrue, IfOk, take_while};
 ghost use Rattle.std.specs.List.{prefix_len};
 ghost use Rattle.gal_parser.specs.Answers.{Takes};
-ghost use Rattle.gal_parser.specs.Tokens.{is_blank, after_blanks, begins_word, continues_word, first_passes, is_taken, ends_or_blank, SpellsWord, SpellsIdentifier, SpellsColon, SpellsStop};
+ghost use Rattle.gal_parser.specs.Tokens.{is_blank, after_blanks, begins_word, continues_word, first_passes, ends_or_blank, SpellsWord, SpellsIdentifier, SpellsColon, SpellsStop};
 
+use cic_terms::{Name, NameFault};
 use std::alloc::{AllocError, AllocFailed, Global};
 
 /// Why something could not be read: what is left does not begin with it, or memory ran out.
@@ -64,31 +65,6 @@ fn word_length(text: &[u8]) -> usize
         .count()
 }
 
-fn is_taken(word: &[u8]) -> bool
-    ensures { result ≡ is_taken word.now }
-{
-    matches!(
-        word,
-        b"_" | b"Prop"
-            | b"Set"
-            | b"Type"
-            | b"forall"
-            | b"fun"
-            | b"let"
-            | b"in"
-            | b"fix"
-            | b"with"
-            | b"for"
-            | b"match"
-            | b"as"
-            | b"return"
-            | b"end"
-    )
-}
-
-/// The most bytes that an identifier may have.
-const LONGEST_NAME: usize = 255;
-
 /// What is left of a source.
 #[derive(Drop)]
 pub struct Reader<'a> {
@@ -119,14 +95,16 @@ impl<'a> Reader<'a> {
         }
     }
 
-    pub fn identifier(&mut self) -> Result<&'a [u8], Fault>
-        ensures { Takes (λ s r x. SpellsIdentifier (after_blanks s) r x) (λ w. w.now) result self.old.rest.now self.new.rest.now }
+    pub fn identifier(&mut self, alloc: Global) -> Result<Name, Fault>
+        ensures { Takes (λ s r x. SpellsIdentifier (after_blanks s) r x) (λ x. x) result self.old.rest.now self.new.rest.now }
     {
         let word = self.word()?;
-        if word.len() > LONGEST_NAME || is_taken(word) {
-            return Err(Fault::NoMatch);
+        match Name::new(alloc, word) {
+            Ok(name) => Ok(name),
+            Err(NameFault::NotIdent) => Err(Fault::NoMatch),
+            Err(NameFault::Long) => Err(Fault::NoMatch),
+            Err(NameFault::NoMemory) => Err(Fault::NoMemory),
         }
-        Ok(word)
     }
 
     pub fn colon(&mut self) -> Result<(), Fault>

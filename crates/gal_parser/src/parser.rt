@@ -7,7 +7,7 @@ ghost use Rattle.gal_parser.specs.Views.{raw_term, sentence_of, sentences_of};
 
 use crate::command::{Command, Commands, Raw};
 use crate::lexer::{Fault, Reader, after_blanks};
-use cic_terms::{Name, NameFault, NoMemory};
+use cic_terms::NoMemory;
 use std::alloc::Global;
 
 /// Why a source gives no sentences.
@@ -42,15 +42,11 @@ fn sentence(alloc: Global, reader: &mut Reader) -> Result<Command, Fault>
     ensures { Takes SpellsSentence sentence_of result reader.old.rest.now reader.new.rest.now }
 {
     reader.keyword(b"Axiom")?;
-    let name = reader.identifier()?;
+    let name = reader.identifier(alloc)?;
     reader.colon()?;
     let ty = term(reader)?;
     reader.stop()?;
-    match Name::new(alloc, name) {
-        Ok(name) => Ok(Command::Axiom { name, ty }),
-        Err(NameFault::NoMemory) => Err(Fault::NoMemory),
-        Err(_) => Err(Fault::NoMatch),
-    }
+    Ok(Command::Axiom { name, ty })
 }
 
 // The next sentence, or nothing where none begins.
