@@ -13,7 +13,8 @@ use std::alloc::Global;
 /// Why a source gives no sentences.
 #[derive(Debug, Drop)]
 pub enum ParseFault {
-    /// From this byte on the source is not understood.
+    /// The source is not understood from this byte on, counted from 0; or it has more than 65,536 bytes,
+    /// and this is 65,536.
     NotYet { place: u32 },
     NoMemory,
 }
@@ -64,6 +65,7 @@ fn next_sentence(alloc: Global, reader: &mut Reader) -> Result<Option<Command>, 
     }
 }
 
+// The sentences up to where none begins.
 fn sentences(alloc: Global, reader: &mut Reader) -> Result<Vec<Command>, NoMemory>
     ensures { IfOk result (λ v. TakesAll reader.old.rest.now reader.new.rest.now (sentences_of v.items)) }
 {
@@ -74,7 +76,7 @@ fn sentences(alloc: Global, reader: &mut Reader) -> Result<Vec<Command>, NoMemor
     Ok(items)
 }
 
-/// The sentences of the source.
+/// The sentences of the source. Coq Reference Manual, "Lexical conventions" and "Assumptions".
 pub fn parse(alloc: Global, source: &[u8]) -> Result<Commands, ParseFault>
     ensures found { IfOk result (λ c. Reads source.now (sentences_of c)) }
     ensures only { IfOk result (λ c. (cs : List Sentence) → Reads source.now cs → sentences_of c ≡ cs) }
