@@ -4,7 +4,7 @@ use Rattle.std.specs.Prelude.{Some, slice_get}
 use Rattle.std.proofs.lemmas.Bool.Decides.{nat_tests}
 use Rattle.std.specs.Int.{is_in_range}
 use Rattle.std.specs.List.{list_all, prefix_len}
-use Rattle.gal_parser.specs.Tokens.{is_blank, after_blanks, first_passes, begins_word, continues_word, SpellsWord, is_taken, SpellsIdentifier, SpellsColon, ends_or_blank, SpellsStop}
+use Rattle.gal_parser.specs.Tokens.{is_blank, after_blanks, first_passes, begins_word, continues_word, SpellsWord, SpellsIdentifier, SpellsColon, ends_or_blank, SpellsStop}
 
 both_true : (a b : Bool) → (a && b) ≡ true → (a ≡ true) × (b ≡ true)
 both_true true true e = (refl, refl)

@@ -1,9 +1,9 @@
 -- The tokens of a source. A text is a list of bytes, and each relation `R s r x` says that the text s
 -- is a token of the value x and then the text r.
-use Rattle.std.specs.Prelude.{ℕ, Bool, true, false, List, [], ◌∷◌, ◌++◌, ◌≡◌, ◌≤◌, ◌||◌, ◌==◌, length, if◌then◌else◌, IsTrue, IsFalse, codes}
-use Rattle.std.specs.List.{list_all, list_any}
-use Rattle.std.specs.Str.{bytes_eq}
+use Rattle.std.specs.Prelude.{ℕ, Bool, true, false, List, [], ◌∷◌, ◌++◌, ◌≡◌, ◌≤◌, ◌||◌, ◌==◌, length, if◌then◌else◌, IsTrue, IsFalse}
+use Rattle.std.specs.List.{list_all}
 use Rattle.std.specs.Char.{is_ascii_alphabetic, is_ascii_alphanumeric}
+use Rattle.cic_terms.specs.Identifier.{IsIdentifier}
 
 -- space, tab, carriage return and line feed
 abbrev pub is_blank : ℕ → Bool
@@ -34,19 +34,10 @@ pub record SpellsWord (s r w : List ℕ) : Type 0 where
   pub continues : IsTrue (list_all continues_word w)
   pub longest : IsFalse (first_passes continues_word r)
 
--- the reserved words
-abbrev pub reserved : List (List ℕ)
-reserved = codes "Prop" ∷ codes "Set" ∷ codes "Type" ∷ codes "forall" ∷ codes "fun" ∷ codes "let" ∷ codes "in" ∷ codes "fix"
-    ∷ codes "with" ∷ codes "for" ∷ codes "match" ∷ codes "as" ∷ codes "return" ∷ codes "end" ∷ []
-
--- whether the word is reserved or the single `_`, which is a symbol
-abbrev pub is_taken : List ℕ → Bool
-is_taken w = list_any (bytes_eq w) (codes "_" ∷ reserved)
-
--- an identifier: a word that is not taken and has at most 255 bytes
+-- an identifier: a word that is one, so neither reserved nor the single `_`, and has at most 255 bytes
 pub record SpellsIdentifier (s r x : List ℕ) : Type 0 where
   pub word : SpellsWord s r x
-  pub free : IsFalse (is_taken x)
+  pub identifier : IsIdentifier x
   pub short : length x ≤ 255
 
 -- the symbol `:`, which no `=` follows, since `:=` is a longer symbol

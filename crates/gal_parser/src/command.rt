@@ -7,12 +7,14 @@ use std::slice::Iter;
 /// A term as it is written, with names that are not looked up yet.
 #[derive(Debug, Drop)]
 pub enum Raw {
+    /// The sort `Prop`.
     Prop,
 }
 
 /// A sentence of a source.
 #[derive(Debug, Drop)]
 pub enum Command {
+    /// `Axiom name : ty.`
     Axiom { name: Name, ty: Raw },
 }
 
@@ -57,6 +59,7 @@ impl Commands {
         self.items.get(place)
     }
 
+    /// The sentences in order.
     pub fn as_slice(&self) -> &[Command]
         ensures { result.now ≡ self.now }
     {

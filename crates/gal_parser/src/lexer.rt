@@ -3,25 +3,16 @@
 ghost use Rattle.std.specs.Prelude.{◌≡◌, ◌≤◌, ◌<◌, ◌↔◌, ◌||◌, ◌==◌, ℕ, List, length, IsTrue, IfOk, take_while};
 ghost use Rattle.std.specs.List.{prefix_len};
 ghost use Rattle.gal_parser.specs.Answers.{Takes};
-ghost use Rattle.gal_parser.specs.Tokens.{is_blank, after_blanks, begins_word, continues_word, first_passes, is_taken, ends_or_blank, SpellsWord, SpellsIdentifier, SpellsColon, SpellsStop};
+ghost use Rattle.gal_parser.specs.Tokens.{is_blank, after_blanks, begins_word, continues_word, first_passes, ends_or_blank, SpellsWord, SpellsIdentifier, SpellsColon, SpellsStop};
 
-use std::alloc::{AllocError, AllocFailed, Global};
+use cic_terms::{Name, NameFault};
+use std::alloc::Global;
 
 /// Why something could not be read: what is left does not begin with it, or memory ran out.
 #[derive(Debug, Drop)]
 pub enum Fault {
     NoMatch,
     NoMemory,
-}
-
-impl From<AllocError> for Fault {
-    ghost use Rattle.gal_parser.specs.declared.lexer.Fault.TheVariants.{NoMemory};
-
-    ghost from_gives = { λ _ e. e ≡ NoMemory };
-
-    fn from(_: AllocError) -> Fault {
-        Fault::NoMemory
-    }
 }
 
 fn is_blank(byte: u8) -> bool
@@ -42,6 +33,7 @@ fn continues_word(byte: u8) -> bool
     byte.is_ascii_alphanumeric() || byte == b'_' || byte == b'\''
 }
 
+/// The text without the blanks with which it begins.
 pub fn after_blanks(text: &[u8]) -> &[u8]
     ensures { result.now ≡ after_blanks text.now }
 {
@@ -55,6 +47,7 @@ pub fn after_blanks(text: &[u8]) -> &[u8]
     rest
 }
 
+// How many bytes from the front on may stand in a word.
 fn word_length(text: &[u8]) -> usize
     ensures value { result ≡ prefix_len continues_word text.now }
     ensures within { result ≤ length text.now }
@@ -64,38 +57,14 @@ fn word_length(text: &[u8]) -> usize
         .count()
 }
 
-fn is_taken(word: &[u8]) -> bool
-    ensures { result ≡ is_taken word.now }
-{
-    matches!(
-        word,
-        b"_" | b"Prop"
-            | b"Set"
-            | b"Type"
-            | b"forall"
-            | b"fun"
-            | b"let"
-            | b"in"
-            | b"fix"
-            | b"with"
-            | b"for"
-            | b"match"
-            | b"as"
-            | b"return"
-            | b"end"
-    )
-}
-
-/// The most bytes that an identifier may have.
-const LONGEST_NAME: usize = 255;
-
-/// What is left of a source.
+/// What is left of a source. Each method reads blanks and one token, and may leave it anywhere after a fault.
 #[derive(Drop)]
 pub struct Reader<'a> {
     pub rest: &'a [u8],
 }
 
 impl<'a> Reader<'a> {
+    /// The longest word.
     pub fn word(&mut self) -> Result<&'a [u8], Fault>
         ensures { Takes (λ s r w. SpellsWord (after_blanks s) r w) (λ w. w.now) result self.old.rest.now self.new.rest.now }
     {
@@ -109,6 +78,7 @@ impl<'a> Reader<'a> {
         Ok(word)
     }
 
+    /// The word that is expected.
     pub fn keyword(&mut self, expected: &[u8]) -> Result<(), Fault>
         ensures { Takes (λ s r _. SpellsWord (after_blanks s) r expected.now) (λ u. u) result self.old.rest.now self.new.rest.now }
     {
@@ -119,16 +89,20 @@ impl<'a> Reader<'a> {
         }
     }
 
-    pub fn identifier(&mut self) -> Result<&'a [u8], Fault>
-        ensures { Takes (λ s r x. SpellsIdentifier (after_blanks s) r x) (λ w. w.now) result self.old.rest.now self.new.rest.now }
+    /// An identifier of at most 255 bytes. Coq Reference Manual, "Lexical conventions".
+    pub fn identifier(&mut self, alloc: Global) -> Result<Name, Fault>
+        ensures { Takes (λ s r x. SpellsIdentifier (after_blanks s) r x) (λ x. x) result self.old.rest.now self.new.rest.now }
     {
         let word = self.word()?;
-        if word.len() > LONGEST_NAME || is_taken(word) {
-            return Err(Fault::NoMatch);
+        match Name::new(alloc, word) {
+            Ok(name) => Ok(name),
+            Err(NameFault::NotIdent) => Err(Fault::NoMatch),
+            Err(NameFault::Long) => Err(Fault::NoMatch),
+            Err(NameFault::NoMemory) => Err(Fault::NoMemory),
         }
-        Ok(word)
     }
 
+    /// The symbol `:`, where the longer `:=` does not stand.
     pub fn colon(&mut self) -> Result<(), Fault>
         ensures { Takes (λ s r _. SpellsColon (after_blanks s) r) (λ u. u) result self.old.rest.now self.new.rest.now }
     {
@@ -141,6 +115,7 @@ impl<'a> Reader<'a> {
         }
     }
 
+    /// The dot that ends a sentence: a blank or the end of the source follows it.
     pub fn stop(&mut self) -> Result<(), Fault>
         ensures { Takes (λ s r _. SpellsStop (after_blanks s) r) (λ u. u) result self.old.rest.now self.new.rest.now }
     {

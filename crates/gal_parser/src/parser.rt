@@ -7,13 +7,14 @@ ghost use Rattle.gal_parser.specs.Views.{raw_term, sentence_of, sentences_of};
 
 use crate::command::{Command, Commands, Raw};
 use crate::lexer::{Fault, Reader, after_blanks};
-use cic_terms::{Name, NameFault, NoMemory};
+use cic_terms::NoMemory;
 use std::alloc::Global;
 
 /// Why a source gives no sentences.
 #[derive(Debug, Drop)]
 pub enum ParseFault {
-    /// From this byte on the source is not understood.
+    /// The source is not understood from this byte on, counted from 0; or it has more than 65,536 bytes,
+    /// and this is 65,536.
     NotYet { place: u32 },
     NoMemory,
 }
@@ -42,15 +43,11 @@ fn sentence(alloc: Global, reader: &mut Reader) -> Result<Command, Fault>
     ensures { Takes SpellsSentence sentence_of result reader.old.rest.now reader.new.rest.now }
 {
     reader.keyword(b"Axiom")?;
-    let name = reader.identifier()?;
+    let name = reader.identifier(alloc)?;
     reader.colon()?;
     let ty = term(reader)?;
     reader.stop()?;
-    match Name::new(alloc, name) {
-        Ok(name) => Ok(Command::Axiom { name, ty }),
-        Err(NameFault::NoMemory) => Err(Fault::NoMemory),
-        Err(_) => Err(Fault::NoMatch),
-    }
+    Ok(Command::Axiom { name, ty })
 }
 
 // The next sentence, or nothing where none begins.
@@ -68,6 +65,7 @@ fn next_sentence(alloc: Global, reader: &mut Reader) -> Result<Option<Command>, 
     }
 }
 
+// The sentences up to where none begins.
 fn sentences(alloc: Global, reader: &mut Reader) -> Result<Vec<Command>, NoMemory>
     ensures { IfOk result (λ v. TakesAll reader.old.rest.now reader.new.rest.now (sentences_of v.items)) }
 {
@@ -78,7 +76,7 @@ fn sentences(alloc: Global, reader: &mut Reader) -> Result<Vec<Command>, NoMemor
     Ok(items)
 }
 
-/// The sentences of the source.
+/// The sentences of the source. Coq Reference Manual, "Lexical conventions" and "Assumptions".
 pub fn parse(alloc: Global, source: &[u8]) -> Result<Commands, ParseFault>
     ensures found { IfOk result (λ c. Reads source.now (sentences_of c)) }
     ensures only { IfOk result (λ c. (cs : List Sentence) → Reads source.now cs → sentences_of c ≡ cs) }

@@ -1,9 +1,10 @@
 use crate::command::Command;
 use crate::parser::{ParseFault, parse};
 use std::alloc::Global;
+use std::process::Abort;
 use std::test::Fail;
 
-#[derive(Debug, PartialEq, Drop)]
+#[derive(Clone, Copy, Debug, PartialEq)]
 enum Outcome {
     Sentences(usize),
     NotYet(u32),
@@ -18,19 +19,21 @@ fn outcome_of(alloc: Global, source: &[u8]) -> Outcome {
     }
 }
 
+fn answers(rt: &impl Abort, alloc: Global, source: &[u8], expected: Outcome) {
+    assert_eq!(rt; outcome_of(alloc, source), expected);
+}
+
 #[test]
 fn sentences_in_order(rt: HostRuntime) -> Result<(), Fail> {
-    let commands = match parse(rt.alloc(), b"\n Axiom P : Prop. Axiom Axiom:Prop\t.\r\n") {
+    let source = b"\n Axiom P : Prop. Axiom Axiom:Prop\t.\r\n";
+    let commands = match parse(rt.alloc(), source) {
         Ok(commands) => commands,
         Err(fault) => return Err(Fail::from(fault)),
     };
     assert_eq!(rt; commands.len(), 2);
     assert!(rt; !commands.is_empty());
-    for (command, expected) in commands
-        .as_slice()
-        .iter()
-        .zip([b"P".as_slice(), b"Axiom".as_slice()])
-    {
+    let names = [b"P".as_slice(), b"Axiom".as_slice()];
+    for (command, expected) in commands.as_slice().iter().zip(names) {
         let Command::Axiom { name, ty: _ } = command;
         assert_eq!(rt; name.bytes(), expected);
     }
@@ -41,60 +44,41 @@ fn sentences_in_order(rt: HostRuntime) -> Result<(), Fail> {
 
 #[test]
 fn sources(rt: HostRuntime) {
-    assert_eq!(rt; outcome_of(rt.alloc(), b""), Outcome::Sentences(0));
-    assert_eq!(rt; outcome_of(rt.alloc(), b" \t\r\n"), Outcome::Sentences(0));
-    assert_eq!(rt;
-        outcome_of(rt.alloc(), b"Axiom _a'1 : Prop."),
-        Outcome::Sentences(1)
-    );
+    let alloc = rt.alloc();
+    answers(&rt, alloc, b"", Outcome::Sentences(0));
+    answers(&rt, alloc, b" \t\r\n", Outcome::Sentences(0));
+    answers(&rt, alloc, b"Axiom _a'1 : Prop.", Outcome::Sentences(1));
 }
 
 #[test]
 fn places(rt: HostRuntime) {
-    assert_eq!(rt;
-        outcome_of(rt.alloc(), b"Axiom a : Prop. Definition b : Prop := a."),
-        Outcome::NotYet(16)
+    let alloc = rt.alloc();
+    let first_of_two = Outcome::NotYet(16);
+    answers(
+        &rt,
+        alloc,
+        b"Axiom a : Prop. Definition b : Prop := a.",
+        first_of_two,
     );
-    assert_eq!(rt;
-        outcome_of(rt.alloc(), b"Axiom a : Prop. Axiom b :"),
-        Outcome::NotYet(16)
-    );
-    assert_eq!(rt;
-        outcome_of(rt.alloc(), b"\n Axiom a : Prop"),
-        Outcome::NotYet(2)
-    );
-    assert_eq!(rt;
-        outcome_of(rt.alloc(), b"Axiom a : Prop. \xff"),
-        Outcome::NotYet(16)
-    );
-    assert_eq!(rt;
-        outcome_of(rt.alloc(), b"Axiom a : Prop.x"),
-        Outcome::NotYet(0)
-    );
-    assert_eq!(rt;
-        outcome_of(rt.alloc(), b"Axiom a : Prop.Axiom b : Prop."),
-        Outcome::NotYet(0)
+    answers(&rt, alloc, b"Axiom a : Prop. Axiom b :", first_of_two);
+    answers(&rt, alloc, b"Axiom a : Prop. \xff", first_of_two);
+    answers(&rt, alloc, b"\n Axiom a : Prop", Outcome::NotYet(2));
+    answers(&rt, alloc, b"Axiom a : Prop.x", Outcome::NotYet(0));
+    answers(
+        &rt,
+        alloc,
+        b"Axiom a : Prop.Axiom b : Prop.",
+        Outcome::NotYet(0),
     );
 }
 
 #[test]
-fn names(rt: HostRuntime) {
-    assert_eq!(rt;
-        outcome_of(rt.alloc(), b"Axiom forall : Prop."),
-        Outcome::NotYet(0)
-    );
-    assert_eq!(rt;
-        outcome_of(rt.alloc(), b"Axiom _ : Prop."),
-        Outcome::NotYet(0)
-    );
-    assert_eq!(rt;
-        outcome_of(rt.alloc(), b"Axiom \xc3\xa9 : Prop."),
-        Outcome::NotYet(0)
-    );
-    assert_eq!(rt;
-        outcome_of(rt.alloc(), b"AxiomP : Prop."),
-        Outcome::NotYet(0)
-    );
+fn words(rt: HostRuntime) {
+    let alloc = rt.alloc();
+    answers(&rt, alloc, b"Axiom forall : Prop.", Outcome::NotYet(0));
+    answers(&rt, alloc, b"Axiom _ : Prop.", Outcome::NotYet(0));
+    answers(&rt, alloc, b"Axiom \xc3\xa9 : Prop.", Outcome::NotYet(0));
+    answers(&rt, alloc, b"AxiomP : Prop.", Outcome::NotYet(0));
 }
 
 fn named(alloc: Global, letters: usize) -> Result<Outcome, Fail> {
@@ -119,14 +103,8 @@ fn lengths_of_sources(rt: HostRuntime) -> Result<(), Fail> {
     for _ in 0..65536 {
         blanks.push(b' ')?;
     }
-    assert_eq!(rt;
-        outcome_of(rt.alloc(), blanks.as_slice()),
-        Outcome::Sentences(0)
-    );
+    answers(&rt, rt.alloc(), blanks.as_slice(), Outcome::Sentences(0));
     blanks.push(b' ')?;
-    assert_eq!(rt;
-        outcome_of(rt.alloc(), blanks.as_slice()),
-        Outcome::NotYet(65536)
-    );
+    answers(&rt, rt.alloc(), blanks.as_slice(), Outcome::NotYet(65536));
     Ok(())
 }

@@ -28,5 +28,5 @@ returns-in_err-stop c =
     let (h, same) = after_term c.in_ok-ty.ensures (after_colon c.identifier.new.self.rest.now c.in_ok-colon.ensures
     (after_name c.keyword.new.self.rest.now c.in_ok-name.ensures (after_axiom c.in_ok-keyword.ensures w))) in (r, tt, h)))
 
-pub returns-in-Ok : goal.returns-in-Ok
-returns-in-Ok c = rw c.in-Ok.ensures.ok (spells_axiom c.in_ok-keyword.ensures c.in_ok-name.ensures c.in_ok-colon.ensures c.in_ok-ty.ensures c.in_ok-stop.ensures)
+pub returns : goal.returns
+returns c = spells_axiom c.in_ok-keyword.ensures c.in_ok-name.ensures c.in_ok-colon.ensures c.in_ok-ty.ensures c.in_ok-stop.ensures
