@@ -1,8 +1,10 @@
 -- What the answers of the program's checks stand for.
-use Rattle.std.specs.Prelude.{ℕ, ◌≡◌, []}
+use Rattle.std.specs.Prelude.{◌≡◌, map}
 use Rattle.cic_terms.specs.Denotes.{tree, tree_sort}
 use Rattle.cic_rules.specs.Outcome as O
 use Rattle.cic_rules.specs.Checking as C
+use Rattle.cic_rules.specs.Constraints as K
+use Rattle.cic_terms.specs.declared.constraint.Constraint.{Constraint}
 use Rattle.cic_env.specs.declared.verdict.Missing.{Missing}
 use Rattle.cic_env.specs.declared.verdict.Missing.TheVariants.{Global, Local}
 use Rattle.cic_env.specs.declared.verdict.Cause.{Cause}
@@ -29,8 +31,15 @@ cause_of (V.NotPositive ctor argument) = O.not_positive ctor argument
 cause_of (V.BadArity ind) = O.bad_arity ind
 cause_of (V.BadConstructor ctor) = O.bad_constructor ctor
 
+abbrev pub constraint_of : Constraint → K.Constraint
+constraint_of c = record { left = c.left; strict = c.strict; right = c.right }
+
 abbrev pub found_of : Found → C.Found
-found_of found = record { visible = []; proofs = []; steps = found.steps }
+found_of found = record {
+  visible = map constraint_of found.visible;
+  proofs = map constraint_of found.proofs;
+  steps = found.steps;
+}
 
 -- The verdict on a declaration is the definition's answer, or there was no memory.
 abbrev pub Judges : Verdict Found → C.Answer → Type 0

@@ -1,4 +1,4 @@
-use cic_terms::{GlobalId, Sort, Term};
+use cic_terms::{Constraints, GlobalId, Sort, Term};
 
 /// What is missing from the environment or the context.
 #[derive(Drop)]
@@ -57,6 +57,10 @@ pub enum Verdict<T: Drop> {
 /// What an accepted declaration needs.
 #[derive(Drop)]
 pub struct Found {
+    /// The constraints that everyone who uses it sees.
+    pub visible: Constraints,
+    /// The constraints of its opaque body.
+    pub proofs: Constraints,
     /// The steps that its check took.
     pub steps: u32,
 }

@@ -10,6 +10,8 @@ ghost use Rattle.cic_env.specs.Verdicts.{Judges};
 ghost use Rattle.cic_kernel.specs.Language.{IsOfLanguage};
 
 use cic_env::{Decl, Env, Found, Verdict};
+use cic_terms::Constraints;
+use std::alloc::Global;
 
 /// The steps of the check of an axiom of type Prop: the sort of Prop is asked for, its type is inferred,
 /// and that type is evaluated, each a counted call.
@@ -17,7 +19,7 @@ const STEPS_OF_PROP: u32 = 3;
 
 /// Checks a declaration over an environment. The budget is the number of steps that it may take.
 /// Manual: "Typing rules", the conditions under which an environment is extended.
-pub fn check_decl(env: &mut Env, decl: &Decl, budget: u32) -> Verdict<Found>
+pub fn check_decl(alloc: Global, env: &mut Env, decl: &Decl, budget: u32) -> Verdict<Found>
     requires language { IsOfLanguage (declaration decl.now) }
     ensures verdict { Judges result (check_declaration (items env.old) (declaration decl.now) budget) }
     ensures same { items env.new ≡ items env.old }
@@ -26,6 +28,8 @@ pub fn check_decl(env: &mut Env, decl: &Decl, budget: u32) -> Verdict<Found>
         return Verdict::Spent;
     }
     Verdict::Done(Found {
+        visible: Constraints::new(alloc),
+        proofs: Constraints::new(alloc),
         steps: STEPS_OF_PROP,
     })
 }
