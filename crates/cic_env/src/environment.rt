@@ -17,6 +17,7 @@ pub struct Env {
 }
 
 /// What an id stands for.
+#[derive(Drop)]
 pub enum Entry<'e> {
     /// This declaration.
     Decl(&'e Decl),

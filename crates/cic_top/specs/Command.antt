@@ -11,36 +11,44 @@ use Rattle.cic_top.specs.Texts.{IsAxiomList, IsRefusalLine, word_line}
 abbrev pub Contents : Type 0
 Contents = List ℕ → Option (List ℕ)
 
--- The command is refused.
-pub data Refuses (words : List (List ℕ)) (content : Contents) : Refusal → Type 0 where
-  source_is_absent : {library : List ℕ} →
-      CommandLine words library →
-      content (source_name library) ≡ None →
-      Refuses words content (no_file (source_name library))
-  source_is_refused : {library source : List ℕ} {r : Refusal} →
-      CommandLine words library →
-      content (source_name library) ≡ Some source →
+-- The source of a library is refused: there is none, or it is refused as it is compiled.
+pub data RefusesSource (library : List ℕ) : Option (List ℕ) → Refusal → Type 0 where
+  is_absent : {bytes : Option (List ℕ)} →
+      bytes ≡ None →
+      RefusesSource library bytes (no_file (source_name library))
+  is_refused : {bytes : Option (List ℕ)} {source : List ℕ} {r : Refusal} →
+      bytes ≡ Some source →
       Compiles library source (refusal r) →
-      Refuses words content r
+      RefusesSource library bytes r
 
--- The command accepts an environment.
+-- The source of a library is compiled to an environment.
+pub record AcceptsSource (library : List ℕ) (bytes : Option (List ℕ)) (E : Environment) : Type 0 where
+  pub source : List ℕ
+  pub is : bytes ≡ Some source
+  pub compiles : Compiles library source (environment E)
+
+-- The command compiles a library whose source is refused, or compiled to an environment.
+pub record Refuses (words : List (List ℕ)) (content : Contents) (r : Refusal) : Type 0 where
+  pub library : List ℕ
+  pub command : CommandLine words library
+  pub source : RefusesSource library (content (source_name library)) r
+
 pub record Accepts (words : List (List ℕ)) (content : Contents) (E : Environment) : Type 0 where
   pub library : List ℕ
-  pub source : List ℕ
   pub command : CommandLine words library
-  pub holds : content (source_name library) ≡ Some source
-  pub compiles : Compiles library source (environment E)
+  pub source : AcceptsSource library (content (source_name library)) E
 
 -- What the command answers and what it prints.
 pub data Answers (words : List (List ℕ)) (content : Contents) : Answer → (output : List ℕ) → Type 0 where
-  is_misread : {k : ℕ} →
+  is_misread : {k : ℕ} {output : List ℕ} →
       FirstNotUnderstood words k →
-      Answers words content (not_understood k) (word_line k)
-  is_refused : {r : Refusal} {output : List ℕ} →
+      output ≡ word_line k →
+      Answers words content (not_understood k) output
+  refuses : {r : Refusal} {output : List ℕ} →
       Refuses words content r →
       IsRefusalLine r output →
       Answers words content (refused r) output
-  is_passed : {E : Environment} {output : List ℕ} →
+  accepts : {E : Environment} {output : List ℕ} →
       Accepts words content E →
       IsAxiomList E output →
       Answers words content passed output

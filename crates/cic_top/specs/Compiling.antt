@@ -1,7 +1,7 @@
 -- What the calls that compile a source answer.
 use Rattle.std.specs.Prelude.{ℕ, List, Result, Ok, Err, ◌≡◌}
 use Rattle.cic_rules.specs.Environment.{Environment}
-use Rattle.cic_env.specs.Views.{items}
+use Rattle.cic_env.specs.Environments.{items}
 use Rattle.cic_env.specs.declared.environment.Env.{Env}
 use Rattle.gal_parser.specs.Grammar.{Sentence}
 use Rattle.cic_top.specs.Compilation.{Adds, IsRefused, Compiles, environment, refusal}

@@ -3,7 +3,10 @@ pub mod Refusals
 pub mod Compilation
 pub mod Texts
 pub mod Command
+pub mod Lines
+pub mod Replies
 pub mod Views
+pub mod Replying
 pub mod Compiling
 pub mod Sources
 pub mod Reading

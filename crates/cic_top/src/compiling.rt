@@ -1,5 +1,5 @@
 ghost use Rattle.std.specs.Prelude.{◌≡◌, ◌++◌, codes, IfOk};
-ghost use Rattle.cic_env.specs.Views.{items};
+ghost use Rattle.cic_env.specs.Environments.{items};
 ghost use Rattle.cic_terms.specs.Denotes.{tree};
 ghost use Rattle.gal_parser.specs.Views.{raw_term, sentence_of};
 ghost use Rattle.cic_top.specs.CommandLine.{IsName, source_name};
@@ -50,7 +50,7 @@ fn run_sentence(alloc: Global, library: &Name, env: &mut Env, command: &Command)
 {
     let Command::Axiom { name, ty } = command;
     let id = GlobalId { lib: library.copy()?, name: name.copy()? };
-    if env.get(&id).is_some() {
+    if env.declares(&id) {
         return Err(Stop::Refused(Refusal::Duplicate { name: name.copy()? }));
     }
     let decl = Decl::Axiom { id: id.copy()?, ty: term_of(ty) };

@@ -1,10 +1,9 @@
-ghost use Rattle.std.specs.Prelude.{◌≡◌, IfOk, string_bytes, ℕ, List};
-ghost use Rattle.cic_env.specs.Views.{items};
+ghost use Rattle.std.specs.Prelude.{◌≡◌, ◌++◌, IfOk, OnOk, string_bytes};
+ghost use Rattle.cic_env.specs.Environments.{items};
 ghost use Rattle.cic_terms.specs.Denotes.{tree};
-ghost use Rattle.cic_top.specs.Texts.{Prints, AxiomLine, AxiomLines, IsAxiomList, IsRefusalLine, id_text, word_line};
-ghost use Rattle.cic_top.specs.Refusals.{Refusal as RefusalData};
+ghost use Rattle.cic_top.specs.Texts.{Prints, AxiomLines, IsAxiomList, IsRefusalLine, id_text, word_line, line_text};
 ghost use Rattle.cic_top.specs.Views.{refusal_of};
-ghost use Rattle.cic_top.specs.Lines.{IsPrintable, HasAxiomLines, HasLine, lines_of};
+ghost use Rattle.cic_top.specs.Lines.{HasText, HasAxiomLines, HasLine, AreSortedAxioms, lines_of};
 
 use crate::answer::Refusal;
 use cic_env::{Decl, Env};
@@ -14,7 +13,7 @@ use std::collections::BTreeMap;
 
 /// A term, printed.
 fn term_text(t: &Term) -> &'static str
-    requires { IsPrintable (tree t.now) }
+    requires { HasText (tree t.now) }
     ensures { Prints (tree t.now) result.now }
 {
     match t {
@@ -24,13 +23,13 @@ fn term_text(t: &Term) -> &'static str
 }
 
 /// An id, printed.
-fn id_text(alloc: Global, id: &GlobalId) -> Result<String, NoMemory>
+fn printed_id(alloc: Global, id: &GlobalId) -> Result<String, NoMemory>
     ensures { IfOk result (λ text. string_bytes text ≡ id_text id.now) }
 {
     format!(in alloc; "{}.{}", id.lib.text(), id.name.text()).map_err(|_| NoMemory)
 }
 
-/// The axioms of the environment, each a printed id with its printed type, sorted by id.
+/// The axioms of the environment, each a printed id with its printed type, in the order of the ids.
 fn sorted_axioms(alloc: Global, env: &Env) -> Result<BTreeMap<String, String>, NoMemory>
     requires { HasAxiomLines (items env.now) }
     ensures { IfOk result (λ sorted. AreSortedAxioms (items env.now) (lines_of sorted.entries)) }
@@ -38,11 +37,70 @@ fn sorted_axioms(alloc: Global, env: &Env) -> Result<BTreeMap<String, String>, N
     let mut sorted = BTreeMap::new(alloc);
     for decl in env.decls() {
         let Decl::Axiom { id, ty } = decl;
-        let id = id_text(alloc, id)?;
+        let id = printed_id(alloc, id)?;
         let ty = String::from_str(alloc, term_text(ty)).map_err(|_| NoMemory)?;
         if sorted.insert(id, ty).is_err() {
             return Err(NoMemory);
         }
     }
     Ok(sorted)
+}
+
+/// Adds a line of the list of axioms.
+fn push_line(text: &mut String, id: &str, ty: &str) -> Result<(), NoMemory>
+    ensures { OnOk result (string_bytes text.new ≡ string_bytes text.old ++ line_text (record { id = id.now; type = ty.now })) }
+{
+    for part in [id, " : ", ty, "\n"] {
+        if text.push_str(part).is_err() {
+            return Err(NoMemory);
+        }
+    }
+    Ok(())
+}
+
+/// The list of the axioms of an environment.
+pub(crate) fn axiom_list(alloc: Global, env: &Env) -> Result<String, NoMemory>
+    requires { HasAxiomLines (items env.now) }
+    ensures { IfOk result (λ text. IsAxiomList (items env.now) (string_bytes text)) }
+{
+    let sorted = sorted_axioms(alloc, env)?;
+    if sorted.is_empty() {
+        return String::from_str(alloc, "Closed under the global context\n").map_err(|_| NoMemory);
+    }
+    let mut text = String::from_str(alloc, "Axioms:\n").map_err(|_| NoMemory)?;
+    for (id, ty) in sorted.iter() {
+        push_line(&mut text, id.as_str(), ty.as_str())?;
+    }
+    Ok(text)
+}
+
+/// The line of a refusal. A declaration of this language is not ill formed.
+pub(crate) fn refusal_line(alloc: Global, refusal: &Refusal) -> Result<String, NoMemory>
+    requires { HasLine (refusal_of refusal.now) }
+    ensures { IfOk result (λ text. IsRefusalLine (refusal_of refusal.now) (string_bytes text)) }
+{
+    let line = match refusal {
+        Refusal::NoFile { name } => format!(in alloc; "Error: no file {}.\n", name.text()),
+        Refusal::NotYet { name, place } => {
+            format!(in alloc; "Error: {}: not yet at byte {place}.\n", name.text())
+        }
+        Refusal::Duplicate { name } => format!(in alloc; "Error: duplicate name {}.\n", name.text()),
+        Refusal::Ill { .. } => unreachable!(),
+        Refusal::Spent { id, budget } => {
+            let id = printed_id(alloc, id)?;
+            format!(in alloc; "Error: In {id}: the budget of {budget} steps is spent.\n")
+        }
+        Refusal::Deep { id } => {
+            let id = printed_id(alloc, id)?;
+            format!(in alloc; "Error: In {id}: too deep.\n")
+        }
+    };
+    line.map_err(|_| NoMemory)
+}
+
+/// The line of a word that is not understood.
+pub(crate) fn word_line(alloc: Global, k: u32) -> Result<String, NoMemory>
+    ensures { IfOk result (λ text. string_bytes text ≡ word_line k) }
+{
+    format!(in alloc; "Error: word {k} is not understood.\n").map_err(|_| NoMemory)
 }

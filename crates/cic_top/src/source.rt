@@ -6,7 +6,7 @@ use cic_io::{Folder, FolderFault, read_whole};
 use std::alloc::Global;
 
 /// The most bytes that a source may have.
-const LONGEST_SOURCE: u64 = 65536;
+pub(crate) const LONGEST_SOURCE: u32 = 65536;
 
 /// What a folder holds under the name of a source.
 pub(crate) enum Source {
@@ -27,7 +27,7 @@ pub(crate) fn source_in<F: Folder>(alloc: Global, folder: &mut F, name: &str) ->
 {
     match folder.size(name)? {
         None => Ok(Source::Absent),
-        Some(size) if size > LONGEST_SOURCE => Ok(Source::Long(size)),
+        Some(size) if size > u64::from(LONGEST_SOURCE) => Ok(Source::Long(size)),
         Some(size) => {
             let text = read_whole(alloc, folder, name, size as usize)?;
             Ok(Source::Text(text))

@@ -1,0 +1,33 @@
+-- What the calls that print ask and answer.
+use Rattle.std.specs.Prelude.{ℕ, List, [], ◌≡◌, map, string_bytes}
+use Rattle.std.specs.declared.string.String.{String}
+use Rattle.std.specs.declared.alloc.Global.{Global}
+use Rattle.cic_terms.specs.Tree.{Tree}
+use Rattle.cic_rules.specs.Environment.{Environment}
+use Rattle.cic_top.specs.Refusals.{Refusal}
+use Rattle.cic_top.specs.Texts.{Prints, AxiomLine, AxiomLines, insert_lines, IsRefusalLine}
+
+-- The term is one that is printed.
+abbrev pub HasText : Tree → Type 0
+HasText t = (text : List ℕ) × Prints t text
+
+-- The environment has axioms alone, whose types are printed.
+abbrev pub HasAxiomLines : Environment → Type 0
+HasAxiomLines E = (lines : List AxiomLine) × AxiomLines E lines
+
+-- The refusal has a line.
+abbrev pub HasLine : Refusal → Type 0
+HasLine r = (line : List ℕ) × IsRefusalLine r line
+
+-- Entries of printed ids and printed types, as lines.
+abbrev pub line_of : String Global × String Global → AxiomLine
+line_of entry = record { id = string_bytes entry.0; type = string_bytes entry.1 }
+
+abbrev pub lines_of : List (String Global × String Global) → List AxiomLine
+lines_of entries = map line_of entries
+
+-- The lines are those of the axioms, sorted by printed id.
+pub record AreSortedAxioms (E : Environment) (sorted : List AxiomLine) : Type 0 where
+  pub lines : List AxiomLine
+  pub each : AxiomLines E lines
+  pub order : sorted ≡ insert_lines [] lines
