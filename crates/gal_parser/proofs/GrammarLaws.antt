@@ -1,8 +1,8 @@
 -- Laws of the grammar: a text is read in one way, and what follows where no further sentence begins.
-use Rattle.std.proofs.Common.{ℕ, List, [], ◌∷◌, ◌++◌, ◌≡◌, ◌≤◌, ◌<◌, ◌+◌, length, refl, ap, sym, subst, ◌∙◌, append-nil, arith, Bool, true, false}
+use Rattle.std.proofs.Common.{ℕ, List, [], ◌∷◌, ◌++◌, ◌≡◌, ◌≤◌, ◌<◌, ◌+◌, length, refl, ap, subst, ◌∙◌, append-nil, arith}
 use Rattle.std.specs.Prelude.{codes}
 use Rattle.gal_parser.specs.Tokens.{after_blanks, SpellsWord, SpellsIdentifier, SpellsColon, SpellsStop}
-use Rattle.gal_parser.specs.Grammar.{RawTerm, prop, Sentence, axiom_sentence, SpellsTerm, spells_prop, SpellsSentence, spells_axiom, SpellsSentences, no_sentence, one_more, longest_source, Reads, LongestLeaves, IsUnreadAt, NotYetAt, too_long, unread}
+use Rattle.gal_parser.specs.Grammar.{RawTerm, Sentence, axiom_sentence, SpellsTerm, spells_prop, SpellsSentence, spells_axiom, SpellsSentences, no_sentence, one_more, longest_source, Reads, NotYetAt, too_long, unread}
 use Rattle.gal_parser.specs.Answers.{Lacks, TakesAll}
 use Rattle.gal_parser.specs.declared.lexer.Fault.{Fault}
 use Rattle.gal_parser.specs.declared.lexer.Fault.TheVariants.{NoMatch, NoMemory}

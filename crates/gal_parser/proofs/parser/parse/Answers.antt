@@ -1,5 +1,4 @@
-use Rattle.std.proofs.Common.{◌≡◌, ◌≤◌, ◌<◌, ◌+◌, ◌-◌, ℕ, List, [], length, refl, sym, ap, ◌∙◌, subst, arith}
-use Rattle.gal_parser.specs.Tokens.{after_blanks}
+use Rattle.std.proofs.Common.{length, refl, ap, arith}
 use Rattle.gal_parser.specs.Grammar.{too_long}
 use Rattle.gal_parser.proofs.TokenLaws.{some_left, none_left}
 use Rattle.gal_parser.proofs.GrammarLaws.{only_these, only_place, unread_at, all_shorten}
