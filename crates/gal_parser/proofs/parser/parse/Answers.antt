@@ -1,3 +1,4 @@
+-- The sentences that were read are all that the source begins with, by the laws of the grammar.
 use Rattle.std.proofs.Common.{length, refl, ap, arith}
 use Rattle.gal_parser.specs.Grammar.{too_long}
 use Rattle.gal_parser.proofs.TokenLaws.{some_left, none_left}

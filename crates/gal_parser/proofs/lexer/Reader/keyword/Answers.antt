@@ -1,3 +1,4 @@
+-- Another word than the expected one stands there, and there is only one.
 use Rattle.std.proofs.Common.{sym, ◌∙◌}
 use Rattle.std.proofs.lemmas.Slice.Eq.{bytes_eq-Decides}
 use Rattle.gal_parser.proofs.TokenLaws.{one_word}

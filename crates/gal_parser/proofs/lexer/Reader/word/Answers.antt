@@ -1,3 +1,4 @@
+-- Where a word may begin, the longest run of its bytes is one.
 use Rattle.std.proofs.Common.{◌≡◌, true, sym, ◌∙◌}
 use Rattle.gal_parser.specs.Tokens.{begins_word, first_passes}
 use Rattle.gal_parser.proofs.TokenLaws.{word_from, first_is}
