@@ -1,8 +1,8 @@
 -- Laws of the grammar: a text is read in one way, and what follows where no further sentence begins.
-use Rattle.std.proofs.Common.{ℕ, List, [], ◌∷◌, ◌++◌, ◌≡◌, ◌≤◌, ◌<◌, ◌+◌, length, refl, ap, sym, subst, ◌∙◌, append-nil, arith, Bool, true, false}
+use Rattle.std.proofs.Common.{ℕ, List, [], ◌∷◌, ◌++◌, ◌≡◌, ◌≤◌, ◌<◌, ◌+◌, length, refl, ap, subst, ◌∙◌, append-nil, arith}
 use Rattle.std.specs.Prelude.{codes}
 use Rattle.gal_parser.specs.Tokens.{after_blanks, SpellsWord, SpellsIdentifier, SpellsColon, SpellsStop}
-use Rattle.gal_parser.specs.Grammar.{RawTerm, prop, Sentence, axiom_sentence, SpellsTerm, spells_prop, SpellsSentence, spells_axiom, SpellsSentences, no_sentence, one_more, longest_source, Reads, LongestLeaves, IsUnreadAt, NotYetAt, too_long, unread}
+use Rattle.gal_parser.specs.Grammar.{RawTerm, Sentence, axiom_sentence, SpellsTerm, spells_prop, SpellsSentence, spells_axiom, SpellsSentences, no_sentence, one_more, longest_source, Reads, NotYetAt, too_long, unread}
 use Rattle.gal_parser.specs.Answers.{Lacks, TakesAll}
 use Rattle.gal_parser.specs.declared.lexer.Fault.{Fault}
 use Rattle.gal_parser.specs.declared.lexer.Fault.TheVariants.{NoMatch, NoMemory}
@@ -14,6 +14,7 @@ pub lacks_part : {Y Z : Type 0} {R : List ℕ → Y → Type 0} {W : List ℕ �
 lacks_part NoMatch none part = λ r z w. let (q, y, h) = part r z w in none q y h
 lacks_part NoMemory none part = tt
 
+-- a text begins with one term at the most
 pub one_term : {s r r' : List ℕ} {t t' : RawTerm} → SpellsTerm s r t → SpellsTerm s r' t' → (t ≡ t') × (r ≡ r')
 one_term (spells_prop h) (spells_prop h') = (refl, (one_word h h').1)
 
@@ -33,10 +34,12 @@ FromName a r c = (b : List ℕ) × (x : List ℕ) × SpellsIdentifier (after_bla
 abbrev pub FromAxiom : List ℕ → List ℕ → Sentence → Type 0
 FromAxiom s r c = (a : List ℕ) × SpellsWord (after_blanks s) a (codes "Axiom") × FromName a r c
 
+-- a sentence has these parts
 pub sentence_parts : {s r : List ℕ} {c : Sentence} → SpellsSentence s r c → FromAxiom s r c
 sentence_parts (spells_axiom {a = a} {b = b} {c = k} {d = d} {x = x} {t = t} h1 h2 h3 h4 h5) =
     (a, h1, (b, x, h2, (k, h3, (d, t, h4, (h5, refl)))))
 
+-- the word Axiom, the name, the colon and the term are those that were read, so the rest follows them
 pub after_axiom : {s a r : List ℕ} {c : Sentence} → SpellsWord (after_blanks s) a (codes "Axiom") → SpellsSentence s r c → FromName a r c
 after_axiom {r = r} {c = c} h whole =
     let (a', h', rest) = sentence_parts whole in subst (λ z. FromName z r c) (one_word h' h).1 rest
@@ -54,11 +57,13 @@ after_term {d = d} {r = r} {x = x} {c = c} h (d', t', h', rest) =
     let same = one_term h' h in
     subst (λ z. FromStop d r x z c) same.0 (subst (λ z. FromStop z r x t' c) same.1 rest)
 
+-- a text begins with one sentence at the most
 pub one_sentence : {s r r' : List ℕ} {c c' : Sentence} → SpellsSentence s r c → SpellsSentence s r' c' → (c ≡ c') × (r ≡ r')
 one_sentence (spells_axiom {a = a} {b = b} h1 h2 h3 h4 h5) whole =
     let last = after_term h4 (after_colon b h3 (after_name a h2 (after_axiom h1 whole))) in
     (last.1, one_stop h5 last.0)
 
+-- a term, a sentence and a list of sentences leave less
 term_shortens : {s r : List ℕ} {t : RawTerm} → SpellsTerm s r t → length r < length s
 term_shortens {s = s} (spells_prop h) = let a = word_shortens h in let b = blanks_shorten s in omega arith
 
@@ -75,6 +80,7 @@ sentence_shortens {s = s} (spells_axiom {a = a} {b = b} {d = d} h1 h2 h3 h4 h5) 
     let at_d = blanks_shorten d in
     omega arith
 
+-- no sentence begins where only blanks follow
 pub no_sentence_at_end : {s r : List ℕ} {c : Sentence} → after_blanks s ≡ [] → SpellsSentence s r c → ⊥
 no_sentence_at_end e (spells_axiom h1 h2 h3 h4 h5) = no_word_at_end h1 e
 
@@ -98,9 +104,11 @@ goes_on {r = r} (one_more h t) (one_more {cs = cs'} h' t') last =
     let first = same.0 in
     (es, rest, (cc))
 
+-- the sentences after which none begins are the longest list
 longest_left : {s q r : List ℕ} {ds cs : List Sentence} → TakesAll s r cs → SpellsSentences s q ds → length r ≤ length q
 longest_left all t = let (es, more, e) = goes_on t all.spelled all.last in sentences_shorten more
 
+-- where only blanks follow, no list of sentences goes on
 no_more : {q r : List ℕ} {es : List Sentence} → after_blanks q ≡ [] → SpellsSentences q r es → (es ≡ []) × (q ≡ r)
 no_more e no_sentence = (refl, refl)
 no_more e (one_more h t) = absurd (no_sentence_at_end e h)
@@ -112,6 +120,7 @@ only_these {ds = ds} all whole =
     let (nothing, here) = no_more whole.blanks more in
     (e ∙ ap (λ z. ds ++ z) nothing ∙ append-nil ds, subst (λ z. after_blanks z ≡ []) here whole.blanks)
 
+-- a list of sentences that takes no byte is empty
 as_long : {q r : List ℕ} {es : List Sentence} → length q ≤ length r → SpellsSentences q r es → q ≡ r
 as_long le no_sentence = refl
 as_long le (one_more h t) = let a = sentence_shortens h in let b = sentences_shorten t in absurd (omega arith)
@@ -125,6 +134,7 @@ only_place {s = s} {r = r} {cs = cs} {place = place} all short (unread short' at
     let same = as_long (at.leaves.longest r cs all.spelled) more in
     (subst (λ z. 0 < length (after_blanks z)) same at.byte, subst (λ z. place + length (after_blanks z) ≡ length s) same at.position)
 
+-- the place behind the sentences that are read, if a byte that is no blank follows them
 pub unread_at : {s r : List ℕ} {cs : List Sentence} {place : ℕ} → TakesAll s r cs → length s ≤ longest_source →
     0 < length (after_blanks r) → place + length (after_blanks r) ≡ length s → NotYetAt s place
 unread_at {r = r} {cs = cs} all short byte position = unread short (record {
@@ -134,8 +144,10 @@ unread_at {r = r} {cs = cs} all short byte position = unread short (record {
   position = position;
 })
 
+-- what is left after the sentences and blanks is part of the source
 pub all_shorten : {s r : List ℕ} {cs : List Sentence} → TakesAll s r cs → length (after_blanks r) ≤ length s
 all_shorten {r = r} all = let a = blanks_shorten r in let b = sentences_shorten all.spelled in omega arith
 
+-- a term is the word Prop
 pub prop_word : {s r : List ℕ} {t : RawTerm} → SpellsTerm s r t → SpellsWord (after_blanks s) r (codes "Prop")
 prop_word (spells_prop h) = h

@@ -1,2 +1,3 @@
+-- Laws of the tokens and of the grammar.
 pub mod TokenLaws
 pub mod GrammarLaws

@@ -1,10 +1,10 @@
 -- Laws of the tokens: each is read in one way, takes at least a byte, and begins as it should.
-use Rattle.std.proofs.Common.{ℕ, zero, suc, Bool, true, false, cond, List, [], ◌∷◌, ◌++◌, ◌≡◌, ◌≢◌, ◌≤◌, ◌<◌, ◌+◌, ◌-◌, ◌&&◌, ◌||◌, ◌==◌, length, take, drop, refl, ap, sym, subst, ◌∙◌, arith, IsTrue, IsFalse, length-append, take-append-drop}
+use Rattle.std.proofs.Common.{ℕ, suc, Bool, true, false, cond, List, [], ◌∷◌, ◌++◌, ◌≡◌, ◌≤◌, ◌<◌, ◌+◌, ◌&&◌, ◌||◌, ◌==◌, length, take, drop, refl, ap, sym, subst, ◌∙◌, arith, length-append, take-append-drop}
 use Rattle.std.specs.Prelude.{Some, slice_get}
 use Rattle.std.proofs.lemmas.Bool.Decides.{nat_tests}
 use Rattle.std.specs.Int.{is_in_range}
 use Rattle.std.specs.List.{list_all, prefix_len}
-use Rattle.gal_parser.specs.Tokens.{is_blank, after_blanks, first_passes, begins_word, continues_word, SpellsWord, SpellsIdentifier, SpellsColon, ends_or_blank, SpellsStop}
+use Rattle.gal_parser.specs.Tokens.{is_blank, after_blanks, first_passes, begins_word, continues_word, SpellsWord, SpellsIdentifier, SpellsColon, SpellsStop}
 
 both_true : (a b : Bool) → (a && b) ≡ true → (a ≡ true) × (b ≡ true)
 both_true true true e = (refl, refl)
@@ -28,6 +28,7 @@ one_run p (x ∷ w) (y ∷ w') r r' e a a' l l' =
     let front = same.0 in
     ((cc), same.1)
 
+-- a text begins with one word, one identifier, one colon and one stop at the most
 pub one_word : {s r r' w w' : List ℕ} → SpellsWord s r w → SpellsWord s r' w' → (w ≡ w') × (r ≡ r')
 one_word {r = r} {r' = r'} {w = w} {w' = w'} h h' =
     one_run continues_word w w' r r' (sym h.text ∙ h'.text) h.continues h'.continues h.longest h'.longest
@@ -49,6 +50,7 @@ run_passes p (x ∷ s) = run_step p x s (p x) (prefix_len p s) refl (run_passes 
   run_step p x s true n e h = let one : 1 + n ≡ suc n = omega arith in rw (one, e) h
   run_step p x s false n e h = refl
 
+-- what follows it does not pass
 run_stops : (p : ℕ → Bool) (s : List ℕ) → first_passes p (drop (prefix_len p s) s) ≡ false
 run_stops p [] = refl
 run_stops p (x ∷ s) = stop_step p x s (p x) (prefix_len p s) refl (run_stops p s) where
@@ -56,10 +58,12 @@ run_stops p (x ∷ s) = stop_step p x s (p x) (prefix_len p s) refl (run_stops p
   stop_step p x s true n e h = let one : 1 + n ≡ suc n = omega arith in rw one h
   stop_step p x s false n e h = e
 
+-- the first byte of a run that is not empty
 begins_step : (q : ℕ → Bool) (x : ℕ) (s : List ℕ) (b : Bool) (n : ℕ) → b ≡ true → q x ≡ true → first_passes q (take (cond b (1 + n) 0) (x ∷ s)) ≡ true
 begins_step q x s true n e h = let one : 1 + n ≡ suc n = omega arith in rw one h
 begins_step q x s false n e h = absurd (cc)
 
+-- what is among three is among five
 some_true : (d u l n q : Bool) → ((u || l) || n) ≡ true → ((((d || u) || l) || n) || q) ≡ true
 some_true true u l n q h = refl
 some_true false true l n q h = refl
@@ -81,6 +85,7 @@ word_from (x ∷ s) h = record {
   longest = run_stops continues_word (x ∷ s);
 }
 
+-- the first byte passes, as an element of the list
 pub first_is : (p : ℕ → Bool) (s : List ℕ) (b : ℕ) → Some b ≡ slice_get s 0 → p b ≡ true → first_passes p s ≡ true
 first_is p [] b e h = absurd (cc)
 first_is p (x ∷ s) b e h = let same : b ≡ x = (cc) in subst (λ z. p z ≡ true) same h
@@ -93,6 +98,7 @@ begins_at s r (x ∷ w) e h = ap (first_passes begins_word) e ∙ h
 pub word_begins : {s r w : List ℕ} → SpellsWord s r w → first_passes begins_word s ≡ true
 word_begins {s = s} {r = r} {w = w} h = begins_at s r w h.text h.begins
 
+-- no word begins at the end of a text
 pub no_word_at_end : {s r w : List ℕ} → SpellsWord s r w → s ≡ [] → ⊥
 no_word_at_end h e = let begins = word_begins h in let nothing = ap (first_passes begins_word) e in (cc)
 
@@ -104,6 +110,7 @@ blanks_shorten (b ∷ s) = skip (is_blank b) (blanks_shorten s) where
   skip true h = omega arith
   skip false h = omega arith
 
+-- a word takes at least one byte, and so do a colon and a stop
 shorter_at : (s r w : List ℕ) → s ≡ w ++ r → first_passes begins_word w ≡ true → length r < length s
 shorter_at s r [] e h = absurd (cc)
 shorter_at s r (x ∷ w) e h = let size = ap length e in let sum = length-append w r in omega arith

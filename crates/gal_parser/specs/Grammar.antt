@@ -42,7 +42,7 @@ pub record Reads (s : List ℕ) (cs : List Sentence) : Type 0 where
   pub sentences : SpellsSentences s rest cs
   pub blanks : after_blanks rest ≡ []
 
--- s begins with a list of sentences that leaves r, and with no longer one
+-- s begins with a list of sentences that leaves r, and each such list is at most as long, in bytes
 pub record LongestLeaves (s r : List ℕ) : Type 0 where
   pub sentences : List Sentence
   pub spelled : SpellsSentences s r sentences

@@ -34,18 +34,18 @@ pub record SpellsWord (s r w : List ℕ) : Type 0 where
   pub continues : IsTrue (list_all continues_word w)
   pub longest : IsFalse (first_passes continues_word r)
 
--- an identifier: a word that is one, so neither reserved nor the single `_`, and has at most 255 bytes
+-- a word that is an identifier, so neither reserved nor the single `_`, and has at most 255 bytes
 pub record SpellsIdentifier (s r x : List ℕ) : Type 0 where
   pub word : SpellsWord s r x
   pub identifier : IsIdentifier x
   pub short : length x ≤ 255
 
--- the symbol `:`, which no `=` follows, since `:=` is a longer symbol
+-- the symbol `:`; no `=` follows it, since `:=` is a longer symbol
 pub record SpellsColon (s r : List ℕ) : Type 0 where
   pub text : s ≡ 58 ∷ r
   pub longest : IsFalse (first_passes (λ b. b == 61) r)
 
--- nothing or a blank comes first
+-- whether the text is at its end or begins with a blank
 abbrev pub ends_or_blank : List ℕ → Bool
 ends_or_blank [] = true
 ends_or_blank (b ∷ s) = is_blank b

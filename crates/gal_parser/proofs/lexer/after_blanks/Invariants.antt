@@ -1,3 +1,4 @@
+-- What is left has the same text after its blanks.
 use Rattle.std.proofs.Common.{◌≡◌, length}
 use Rattle.gal_parser.specs.Tokens.{after_blanks}
 use Rattle.gal_parser.proofs.lexer.after_blanks.Given as goal

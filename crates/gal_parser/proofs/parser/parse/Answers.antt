@@ -1,5 +1,5 @@
-use Rattle.std.proofs.Common.{◌≡◌, ◌≤◌, ◌<◌, ◌+◌, ◌-◌, ℕ, List, [], length, refl, sym, ap, ◌∙◌, subst, arith}
-use Rattle.gal_parser.specs.Tokens.{after_blanks}
+-- The sentences that were read are all that the source begins with, by the laws of the grammar.
+use Rattle.std.proofs.Common.{length, refl, ap, arith}
 use Rattle.gal_parser.specs.Grammar.{too_long}
 use Rattle.gal_parser.proofs.TokenLaws.{some_left, none_left}
 use Rattle.gal_parser.proofs.GrammarLaws.{only_these, only_place, unread_at, all_shorten}

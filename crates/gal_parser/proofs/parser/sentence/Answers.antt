@@ -1,5 +1,6 @@
+-- A sentence is read part by part, and where a part is missing none begins.
 use Rattle.std.proofs.lemmas.Result.{err_from_is_err_and}
-use Rattle.gal_parser.specs.Grammar.{SpellsSentence, spells_axiom}
+use Rattle.gal_parser.specs.Grammar.{spells_axiom}
 use Rattle.gal_parser.proofs.GrammarLaws.{lacks_part, sentence_parts, after_axiom, after_name, after_colon, after_term}
 use Rattle.gal_parser.proofs.parser.sentence.Goals as goal
 

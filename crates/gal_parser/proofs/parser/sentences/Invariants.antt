@@ -1,3 +1,4 @@
+-- So far the sentences that are kept were read, and the rest gets shorter.
 use Rattle.std.proofs.Common.{length}
 use Rattle.gal_parser.specs.Grammar.{SpellsSentences}
 use Rattle.gal_parser.specs.Views.{sentences_of}

@@ -1,5 +1,6 @@
+-- A term is the word `Prop`.
 use Rattle.std.proofs.lemmas.Result.{err_from_is_err_and}
-use Rattle.gal_parser.specs.Grammar.{SpellsTerm, spells_prop}
+use Rattle.gal_parser.specs.Grammar.{spells_prop}
 use Rattle.gal_parser.proofs.GrammarLaws.{lacks_part, prop_word}
 use Rattle.gal_parser.proofs.parser.term.Goals as goal
 

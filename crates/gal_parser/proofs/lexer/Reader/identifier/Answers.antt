@@ -1,4 +1,5 @@
-use Rattle.std.proofs.Common.{◌≡◌, ◌≤◌, length, subst, refl, arith}
+-- The word that stands there is the only one, and it is no identifier or too long.
+use Rattle.std.proofs.Common.{◌≤◌, length, subst, arith}
 use Rattle.cic_terms.specs.Identifier.{IsIdentifier}
 use Rattle.gal_parser.proofs.TokenLaws.{one_word}
 use Rattle.gal_parser.proofs.lexer.Reader.identifier.Goals as goal

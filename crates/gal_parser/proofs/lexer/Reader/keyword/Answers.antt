@@ -1,5 +1,5 @@
-use Rattle.std.proofs.Common.{◌≡◌, true, false, sym, ◌∙◌}
-use Rattle.std.specs.Str.{bytes_eq}
+-- Another word than the expected one stands there, and there is only one.
+use Rattle.std.proofs.Common.{sym, ◌∙◌}
 use Rattle.std.proofs.lemmas.Slice.Eq.{bytes_eq-Decides}
 use Rattle.gal_parser.proofs.TokenLaws.{one_word}
 use Rattle.gal_parser.proofs.lexer.Reader.keyword.Goals as goal

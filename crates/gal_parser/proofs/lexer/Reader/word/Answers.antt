@@ -1,5 +1,6 @@
-use Rattle.std.proofs.Common.{◌≡◌, true, ap, sym, ◌∙◌}
-use Rattle.gal_parser.specs.Tokens.{after_blanks, begins_word, first_passes}
+-- Where a word may begin, the longest run of its bytes is one.
+use Rattle.std.proofs.Common.{◌≡◌, true, sym, ◌∙◌}
+use Rattle.gal_parser.specs.Tokens.{begins_word, first_passes}
 use Rattle.gal_parser.proofs.TokenLaws.{word_from, first_is}
 use Rattle.gal_parser.proofs.lexer.Reader.word.Goals as goal
 
