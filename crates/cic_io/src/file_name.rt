@@ -58,13 +58,16 @@ impl FileName {
     }
 }
 
+// The most bytes of the name of a file.
+const LONGEST_NAME: usize = 300;
+
 // The text of those bytes, where they are the name of a file.
 fn file_name_text(bytes: &[u8]) -> Option<&str>
     ensures { SomeIff (option_copied result) (IsFileName bytes.now) bytes.now }
 {
     let text = std::str::from_utf8(bytes).ok()?;
     let allowed = !bytes.is_empty()
-        && bytes.len() <= 300
+        && bytes.len() <= LONGEST_NAME
         && !bytes.contains(&b'/')
         && !bytes.contains(&0)
         && text != "."

@@ -1,7 +1,5 @@
 -- One read more makes the front of the file longer, and takes its bytes.
-use Rattle.std.proofs.Common.{◌∙◌, ◌-◌, ◌≡◌, ◌≤◌, List, ℕ, ap, subst, length, take, drop, arith, Option}
-use Rattle.cic_io.specs.Files.{Files}
-use Rattle.cic_io.specs.Reading.{ReadTold}
+use Rattle.std.proofs.Common.{◌∙◌, ◌-◌, ◌≡◌, length, take, drop, arith}
 use Rattle.std.proofs.lemmas.List.{length-take, length-drop}
 use borrow.Rule.Slice.PartMut.{put_mid, same_len_mid}
 use Rattle.cic_io.proofs.Fronts.{WholeTold-more, Takes-more}

@@ -1,6 +1,5 @@
 -- What was read so far is the front of the file, no fault was counted, and the bytes taken are those that were read.
-use Rattle.std.proofs.Common.{ℕ, List, ◌≡◌, ◌≤◌, ◌-◌, length, take, IfSome}
-use Rattle.cic_io.specs.Files.{Files, bytes_of, bytes_from}
+use Rattle.std.proofs.Common.{◌≡◌, ◌≤◌, ◌-◌, length, take}
 use Rattle.cic_io.specs.Reading.{WholeTold, Takes}
 use Rattle.cic_io.proofs.whole.fill.Given as goal
 
