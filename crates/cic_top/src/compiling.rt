@@ -4,7 +4,7 @@ ghost use Rattle.cic_terms.specs.Denotes.{tree};
 ghost use Rattle.gal_parser.specs.Views.{raw_term, sentence_of};
 ghost use Rattle.cic_top.specs.CommandLine.{IsName, source_name};
 ghost use Rattle.cic_top.specs.Compilation.{StandsFor};
-ghost use Rattle.cic_top.specs.Compiling.{AddsOrRefuses, CompilesTo, RefusesWith};
+ghost use Rattle.cic_top.specs.Compiling.{AddsOrRefuses, CompilesTo};
 
 use crate::answer::Refusal;
 use cic_env::{Decl, Env, PushFault, Verdict};

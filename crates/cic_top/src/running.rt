@@ -62,6 +62,7 @@ fn accepting(alloc: Global, env: &Env) -> Result<Reply, FolderFault>
 }
 
 /// The reply on a library, by what was found as its source.
+#[tactic(none)]
 fn over_source(alloc: Global, library: &Name, name: FileName, source: Source) -> Result<Reply, FolderFault>
     requires { name ≡ source_name library.now }
     ensures reply { IfOk result (λ reply. (bytes : Option (List ℕ)) → Fits source bytes →
@@ -80,6 +81,7 @@ fn over_source(alloc: Global, library: &Name, name: FileName, source: Source) ->
 }
 
 /// The reply to a command line, over a folder.
+#[tactic(none)]
 fn reply_over<F: Folder>(alloc: Global, words: &Words, folder: &mut F) -> Result<Reply, FolderFault>
     ensures says { IfOk result (λ reply.
         Says words.now (F.files folder.old) (answer_of reply.answer) (string_bytes reply.output)) }
@@ -118,6 +120,7 @@ fn misreading(alloc: Global, k: u32) -> Result<Reply, FolderFault>
 /// The one command is `coqc A.v`: it reads the source of the library A, checks what it declares, and prints the
 /// axioms. It writes no file. What it prints, it prints at the end: the list of axioms, the line of a refusal, or
 /// the line of a word that is not understood.
+#[tactic(none)]
 pub fn run<F: Folder, O: Sink>(alloc: Global, words: &Words, folder: &mut F, out: &mut O) -> Answer
     // Over a told folder and sink, where no count of faults rose, the answer and the output are the command's.
     ensures stated { AnswersAsStatedUnlessFaults words.now (F.files folder.old) (answer_of result) (O.sent out.old) (O.sent out.new)
