@@ -46,16 +46,24 @@ fn sorted_axioms(alloc: Global, env: &Env) -> Result<BTreeMap<String, String>, N
     Ok(sorted)
 }
 
+/// Adds a part of a line.
+fn push_part(text: &mut String, part: &str) -> Result<(), NoMemory>
+    ensures { OnOk result (string_bytes text.new ≡ string_bytes text.old ++ part.now) }
+{
+    match text.push_str(part) {
+        Ok(()) => Ok(()),
+        Err(_) => Err(NoMemory),
+    }
+}
+
 /// Adds a line of the list of axioms.
 fn push_line(text: &mut String, id: &str, ty: &str) -> Result<(), NoMemory>
     ensures { OnOk result (string_bytes text.new ≡ string_bytes text.old ++ line_text (record { id = id.now; type = ty.now })) }
 {
-    for part in [id, " : ", ty, "\n"] {
-        if text.push_str(part).is_err() {
-            return Err(NoMemory);
-        }
-    }
-    Ok(())
+    push_part(text, id)?;
+    push_part(text, " : ")?;
+    push_part(text, ty)?;
+    push_part(text, "\n")
 }
 
 /// The list of the axioms of an environment.

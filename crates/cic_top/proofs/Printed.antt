@@ -1,0 +1,125 @@
+-- The lines of the list of axioms, as the program makes them.
+use Rattle.std.proofs.Common.{ℕ, List, [], ◌∷◌, ◌++◌, ◌≡◌, refl, sym, ap, ◌∙◌, map, Bool, true, codes, subst, rules, arith}
+use Rattle.std.specs.Ordering.{nat_cmp, is_eq, match_ordering}
+use Rattle.std.specs.Cmp.Lexicographic.{slice_cmp}
+use Rattle.std.specs.declared.cmp.Ordering.{Ordering}
+use Rattle.std.specs.declared.cmp.Ordering.TheVariants.{Less, Equal, Greater}
+use Rattle.std.specs.declared.string.String.{String}
+use Rattle.std.specs.declared.alloc.Global.{Global}
+use Rattle.std.specs.String.{string_cmp, string_bytes}
+use Rattle.std.specs.Str.{bytes_eq}
+use Rattle.std.specs.BTreeMap.{insert_entry}
+use Rattle.std.proofs.lemmas.Map.Text.{is_eq-slice_cmp}
+use Rattle.std.proofs.lemmas.Slice.Eq.{bytes_eq-Decides}
+use Rattle.cic_terms.specs.Tree.{Tree, sort, prop}
+use Rattle.cic_terms.specs.declared.name.GlobalId.{GlobalId}
+use Rattle.cic_rules.specs.Environment.{Environment, declared, axiom_of}
+use Rattle.cic_top.specs.Texts.{Prints, prop_is_printed, AxiomLine, AxiomLines, no_item, one_axiom, id_text, put_line, insert_line, insert_lines}
+use Rattle.cic_top.specs.Lines.{line_of, lines_of, AreSortedAxioms}
+
+-- A term is printed in one way.
+printed_as_prop : {t : Tree} {text : List ℕ} → Prints t text → text ≡ codes "Prop"
+printed_as_prop prop_is_printed = refl
+
+pub prints_same : {t : Tree} {a b : List ℕ} → Prints t a → Prints t b → a ≡ b
+prints_same p q = printed_as_prop p ∙ sym (printed_as_prop q)
+
+-- What the lines of an environment say of its first axiom.
+pub record FirstAxiom (id : GlobalId) (type : Tree) (E : Environment) (lines : List AxiomLine) : Type 0 where
+  pub text : List ℕ
+  pub rest : List AxiomLine
+  pub is_printed : Prints type text
+  pub others : AxiomLines E rest
+  pub is : lines ≡ record { id = id_text id; type = text } ∷ rest
+
+pub first_axiom : {id : GlobalId} {type : Tree} {E : Environment} {lines : List AxiomLine} →
+    AxiomLines (declared (axiom_of id type) ∷ E) lines →
+    FirstAxiom id type E lines
+first_axiom (one_axiom {text = text} {lines = lines} p others) = record { text = text; rest = lines; is_printed = p; others = others; is = refl }
+
+pub no_line : {lines : List AxiomLine} → AxiomLines [] lines → lines ≡ []
+no_line no_item = refl
+
+-- An entry put into a map of entries is its line put among their lines.
+same_bytes : (a b : List ℕ) → slice_cmp nat_cmp a b ≡ Equal → a ≡ b
+same_bytes a b h = let e : bytes_eq a b ≡ true = sym (is_eq-slice_cmp a b) ∙ ap is_eq h in
+    search (rules, bytes_eq-Decides a b, e)
+
+put_entry : (key value : String Global) (entry : String Global × String Global) (rest put : List (String Global × String Global)) (lines : List AxiomLine) (o : Ordering) →
+    slice_cmp nat_cmp (string_bytes key) (string_bytes entry.0) ≡ o →
+    lines_of put ≡ lines →
+    lines_of (match_ordering o ((key, value) ∷ entry ∷ rest) ((entry.0, value) ∷ rest) (entry ∷ put)) ≡ put_line (line_of (key, value)) o (line_of entry) (lines_of rest) lines
+put_entry key value entry rest put lines Less is h = refl
+put_entry key value entry rest put lines Equal is h =
+    ap (λ (bytes : List ℕ). (let line : AxiomLine = record { id = bytes; type = string_bytes value } in line) ∷ lines_of rest) (sym (same_bytes _ _ is))
+put_entry key value entry rest put lines Greater is h = ap (λ (later : List AxiomLine). line_of entry ∷ later) h
+
+pub insert_entry_line : (entries : List (String Global × String Global)) (key value : String Global) →
+    lines_of (insert_entry string_cmp entries key value) ≡ insert_line (lines_of entries) (line_of (key, value))
+insert_entry_line [] key value = refl
+insert_entry_line (entry ∷ entries) key value =
+    put_entry key value entry entries (insert_entry string_cmp entries key value) (insert_line (lines_of entries) (line_of (key, value)))
+    (slice_cmp nat_cmp (string_bytes key) (string_bytes entry.0)) refl (insert_entry_line entries key value)
+
+-- Lines with one put among them are some.
+put_some : (new line : AxiomLine) (rest put : List AxiomLine) (o : Ordering) → put_line new o line rest put ≡ [] → ⊥
+put_some new line rest put Less e = cc
+put_some new line rest put Equal e = cc
+put_some new line rest put Greater e = cc
+
+insert_some : (lines : List AxiomLine) (new : AxiomLine) → insert_line lines new ≡ [] → ⊥
+insert_some [] new e = cc
+insert_some (line ∷ lines) new e = put_some new line lines (insert_line lines new) (slice_cmp nat_cmp new.id line.id) e
+
+sorted_none : (sorted lines : List AxiomLine) → insert_lines sorted lines ≡ [] → (sorted ≡ []) × (lines ≡ [])
+sorted_none sorted [] e = (e, refl)
+sorted_none sorted (line ∷ lines) e = absurd (insert_some sorted line (sorted_none (insert_line sorted line) lines e).0)
+
+pub no_sorted_line : (lines : List AxiomLine) → insert_lines [] lines ≡ [] → lines ≡ []
+no_sorted_line lines e = (sorted_none [] lines e).1
+
+-- The lines so far, with those that are left, are the lines of the whole environment.
+pub record SortedSoFar (E left : Environment) (sorted : List AxiomLine) : Type 0 where
+  pub lines : List AxiomLine
+  pub rest : List AxiomLine
+  pub each : AxiomLines E lines
+  pub each_left : AxiomLines left rest
+  pub order : insert_lines sorted rest ≡ insert_lines [] lines
+
+pub sorted_at_start : (E left : Environment) (lines : List AxiomLine) → left ≡ E → AxiomLines E lines → SortedSoFar E left []
+sorted_at_start E left lines same each = record {
+  lines = lines;
+  rest = lines;
+  each = each;
+  each_left = subst (λ (F : Environment). AxiomLines F lines) (sym same) each;
+  order = refl;
+}
+
+-- One more axiom is put among the lines.
+pub sorted_more : (E left : Environment) (id : GlobalId) (type : Tree) (entries : List (String Global × String Global)) (key value : String Global) →
+    SortedSoFar E (declared (axiom_of id type) ∷ left) (lines_of entries) →
+    string_bytes key ≡ id_text id →
+    Prints type (string_bytes value) →
+    SortedSoFar E left (lines_of (insert_entry string_cmp entries key value))
+sorted_more E left id type entries key value sorted named printed =
+    let first : FirstAxiom id type left sorted.rest = first_axiom sorted.each_left in
+    let typed : string_bytes value ≡ first.text = prints_same printed first.is_printed in
+    let put : lines_of (insert_entry string_cmp entries key value) ≡ insert_line (lines_of entries) (line_of (key, value)) = insert_entry_line entries key value in
+    let line : line_of (key, value) ≡ record { id = id_text id; type = first.text } = cc in
+    record {
+      lines = sorted.lines;
+      rest = first.rest;
+      each = sorted.each;
+      each_left = first.others;
+      order = (ap (λ (ls : List AxiomLine). insert_lines ls first.rest) (put ∙ ap (insert_line (lines_of entries)) line)
+          ∙ ap (insert_lines (lines_of entries)) (sym first.is)) ∙ sorted.order;
+    }
+
+pub sorted_at_end : (E left : Environment) (sorted : List AxiomLine) → left ≡ [] → SortedSoFar E left sorted → AreSortedAxioms E sorted
+sorted_at_end E left sorted none so_far =
+    let no : so_far.rest ≡ [] = no_line (subst (λ (F : Environment). AxiomLines F so_far.rest) none so_far.each_left) in
+    record {
+      lines = so_far.lines;
+      each = so_far.each;
+      order = ap (insert_lines sorted) (sym no) ∙ so_far.order;
+    }
