@@ -1,5 +1,5 @@
 -- The lines of the list of axioms, as the program makes them.
-use Rattle.std.proofs.Common.{ℕ, List, [], ◌∷◌, ◌++◌, ◌≡◌, refl, sym, ap, ◌∙◌, map, Bool, true, codes, subst, rules, arith}
+use Rattle.std.proofs.Common.{ℕ, List, [], ◌∷◌, ◌++◌, ◌≡◌, refl, sym, ap, ◌∙◌, map, Bool, true, codes, Result, Ok, Err, IfOk, subst, rules, arith}
 use Rattle.std.specs.Ordering.{nat_cmp, is_eq, match_ordering}
 use Rattle.std.specs.Cmp.Lexicographic.{slice_cmp}
 use Rattle.std.specs.declared.cmp.Ordering.{Ordering}
@@ -123,3 +123,12 @@ sorted_at_end E left sorted none so_far =
       each = so_far.each;
       order = ap (insert_lines sorted) (sym no) ∙ so_far.order;
     }
+
+-- What holds of a text that was made holds of it where it is handed on.
+pub made_text : {A E F : Type 0} (made : Result A E) (handed : Result A F) (P Q : A → Type 0) →
+    IfOk handed (λ x. made ≡ Ok x) →
+    IfOk made P →
+    ((x : A) → P x → Q x) →
+    IfOk handed Q
+made_text made (Ok x) P Q is p more = more x (subst (λ t. IfOk t P) is p)
+made_text made (Err e) P Q is p more = tt

@@ -1,4 +1,12 @@
+use Rattle.std.proofs.Common.{◌≡◌, ◌++◌, codes}
+use Rattle.std.specs.String.{string_bytes}
+use Rattle.cic_top.specs.Texts.{id_text}
+use Rattle.cic_top.proofs.Printed.{made_text}
 use Rattle.cic_top.proofs.printing.printed_id.Goals as goal
 
 pub returns : goal.returns
-returns c = let h = c.format.ensures.ok in let k = c.text.ensures.value in let m = c.map_err.ensures.cases in let v = c.map_err.ensures.variant in ?
+returns c = made_text c.format.result c.with_memory.result
+    (λ s. string_bytes s ≡ c.text.result.now ++ (codes "." ++ c.text-2.result.now))
+    (λ s. string_bytes s ≡ id_text c.args.id.now)
+    c.with_memory.ensures c.format.ensures.ok
+    (λ s e. ?)
