@@ -1,21 +1,26 @@
 -- The lines of the list of axioms, as the program makes them.
-use Rattle.std.proofs.Common.{ℕ, List, [], ◌∷◌, ◌++◌, ◌≡◌, refl, sym, ap, ◌∙◌, map, Bool, true, codes, Result, Ok, Err, IfOk, subst, rules, arith}
+use Rattle.std.proofs.Common.{ℕ, List, [], ◌∷◌, ◌++◌, ◌≡◌, refl, sym, ap, ◌∙◌, map, Bool, true, codes, Result, Ok, Err, IfOk, OnOk, false, length, drop, get_or, ◌<◌, ◌+◌, decimal, append_assoc, subst, rules, arith}
 use Rattle.std.specs.Ordering.{nat_cmp, is_eq, match_ordering}
 use Rattle.std.specs.Cmp.Lexicographic.{slice_cmp}
 use Rattle.std.specs.declared.cmp.Ordering.{Ordering}
 use Rattle.std.specs.declared.cmp.Ordering.TheVariants.{Less, Equal, Greater}
 use Rattle.std.specs.declared.string.String.{String}
 use Rattle.std.specs.declared.alloc.Global.{Global}
+use Rattle.std.specs.Result.{is_err}
 use Rattle.std.specs.String.{string_cmp, string_bytes}
 use Rattle.std.specs.Str.{bytes_eq}
 use Rattle.std.specs.BTreeMap.{insert_entry}
+use Rattle.std.proofs.lemmas.List.{drop_more}
 use Rattle.std.proofs.lemmas.Map.Text.{is_eq-slice_cmp}
 use Rattle.std.proofs.lemmas.Slice.Eq.{bytes_eq-Decides}
 use Rattle.cic_terms.specs.Tree.{Tree, sort, prop}
 use Rattle.cic_terms.specs.declared.name.GlobalId.{GlobalId}
-use Rattle.cic_rules.specs.Environment.{Environment, declared, axiom_of}
-use Rattle.cic_top.specs.Texts.{Prints, prop_is_printed, AxiomLine, AxiomLines, no_item, one_axiom, id_text, put_line, insert_line, insert_lines}
-use Rattle.cic_top.specs.Lines.{line_of, lines_of, AreSortedAxioms}
+use Rattle.cic_rules.specs.Environment.{Environment, Declaration, declared, axiom_of}
+use Rattle.cic_env.specs.Declarations.{declaration, item}
+use Rattle.cic_env.specs.declared.declaration.Decl.{Decl}
+use Rattle.cic_top.specs.Refusals.{Refusal, no_file, not_yet, duplicate, spent, deep}
+use Rattle.cic_top.specs.Texts.{Prints, prop_is_printed, AxiomLine, AxiomLines, no_item, one_axiom, id_text, put_line, insert_line, insert_lines, axiom_list, IsAxiomList, error_line, IsRefusalLine, no_file_line, not_yet_line, duplicate_line, spent_line, deep_line}
+use Rattle.cic_top.specs.Lines.{HasText, line_of, lines_of, AreSortedAxioms}
 
 -- A term is printed in one way.
 printed_as_prop : {t : Tree} {text : List ℕ} → Prints t text → text ≡ codes "Prop"
@@ -132,3 +137,86 @@ pub made_text : {A E F : Type 0} (made : Result A E) (handed : Result A F) (P Q 
     IfOk handed Q
 made_text made (Ok x) P Q is p more = more x (subst (λ t. IfOk t P) is p)
 made_text made (Err e) P Q is p more = tt
+
+pub made_from : {A E : Type 0} (made : Result A E) (x : A) (P : A → Type 0) → made ≡ Ok x → IfOk made P → P x
+made_from made x P is p = subst (λ t. IfOk t P) is p
+
+pub on_no_fault : {A E : Type 0} (r : Result A E) (P : Type 0) → false ≡ is_err r → OnOk r P → P
+on_no_fault (Ok x) P is p = p
+on_no_fault (Err e) P is p = cc
+
+-- The first of the declarations that are left is an axiom.
+pub first_left : (E : Environment) (sorted : List AxiomLine) (decls : List Decl) (i : ℕ) (decl : Decl) (id : GlobalId) (type : Tree) →
+    i < length decls →
+    decl ≡ get_or decls i decl →
+    declaration decl ≡ axiom_of id type →
+    SortedSoFar E (map item (drop i decls)) sorted →
+    SortedSoFar E (declared (axiom_of id type) ∷ map item (drop (i + 1) decls)) sorted
+first_left E sorted decls i decl id type below is parts so_far =
+    let first : drop i decls ≡ decl ∷ drop (i + 1) decls = drop_more decls i decl below ∙ ap (λ (d : Decl). d ∷ drop (i + 1) decls) (sym is) in
+    let left : map item (drop i decls) ≡ declared (axiom_of id type) ∷ map item (drop (i + 1) decls) =
+        ap (map item) first ∙ ap (λ (d : Declaration). declared d ∷ map item (drop (i + 1) decls)) parts in
+    subst (λ (F : Environment). SortedSoFar E F sorted) left so_far
+
+pub first_has_text : (E left : Environment) (sorted : List AxiomLine) (id : GlobalId) (type : Tree) →
+    SortedSoFar E (declared (axiom_of id type) ∷ left) sorted →
+    HasText type
+first_has_text E left sorted id type so_far =
+    let first : FirstAxiom id type left so_far.rest = first_axiom so_far.each_left in
+    (first.text, first.is_printed)
+
+-- The list where there is no axiom.
+pub closed_list : (E : Environment) (sorted : List AxiomLine) → AreSortedAxioms E sorted → sorted ≡ [] →
+    IsAxiomList E (codes "Closed under the global context\n")
+closed_list E sorted axioms none =
+    let no : axioms.lines ≡ [] = no_sorted_line axioms.lines (sym axioms.order ∙ none) in
+    record { lines = axioms.lines; each = axioms.each; text = sym (ap axiom_list no) }
+
+-- The lines of refusals, as they are put together.
+line_as : (r s : Refusal) (text line : List ℕ) → r ≡ s → text ≡ line → IsRefusalLine s line → IsRefusalLine r text
+line_as r s text line same_refusal same_text is =
+    subst (λ (x : Refusal). IsRefusalLine x text) (sym same_refusal) (subst (λ (t : List ℕ). IsRefusalLine s t) (sym same_text) is)
+
+pub no_file_text : (r : Refusal) (name text : List ℕ) → r ≡ no_file name →
+    text ≡ codes "Error: no file " ++ (name ++ codes ".\n") →
+    IsRefusalLine r text
+no_file_text r name text is e = line_as r (no_file name) text _ is (simp append_assoc e) no_file_line
+
+pub not_yet_text : (r : Refusal) (name : List ℕ) (place : ℕ) (text : List ℕ) → r ≡ not_yet name place →
+    text ≡ codes "Error: " ++ (name ++ (codes ": not yet at byte " ++ (decimal place ++ codes ".\n"))) →
+    IsRefusalLine r text
+not_yet_text r name place text is e = line_as r (not_yet name place) text _ is (simp append_assoc e) not_yet_line
+
+pub duplicate_text : (r : Refusal) (name text : List ℕ) → r ≡ duplicate name →
+    text ≡ codes "Error: duplicate name " ++ (name ++ codes ".\n") →
+    IsRefusalLine r text
+duplicate_text r name text is e = line_as r (duplicate name) text _ is (simp append_assoc e) duplicate_line
+
+spent_bytes : (id : List ℕ) (budget : ℕ) (text : List ℕ) →
+    text ≡ codes "Error: In " ++ (id ++ (codes ": the budget of " ++ (decimal budget ++ codes " steps is spent.\n"))) →
+    text ≡ error_line (codes "In " ++ id ++ codes ": the budget of " ++ decimal budget ++ codes " steps is spent.")
+spent_bytes id budget text e = simp append_assoc e
+
+pub spent_text : (r : Refusal) (id : GlobalId) (budget : ℕ) (printed text : List ℕ) → r ≡ spent id budget →
+    printed ≡ id_text id →
+    text ≡ codes "Error: In " ++ (printed ++ (codes ": the budget of " ++ (decimal budget ++ codes " steps is spent.\n"))) →
+    IsRefusalLine r text
+spent_text r id budget printed text is named e =
+    line_as r (spent id budget) text _ is
+    (spent_bytes printed budget text e
+        ∙ ap (λ (b : List ℕ). error_line (codes "In " ++ b ++ codes ": the budget of " ++ decimal budget ++ codes " steps is spent.")) named)
+    spent_line
+
+deep_bytes : (id text : List ℕ) →
+    text ≡ codes "Error: In " ++ (id ++ codes ": too deep.\n") →
+    text ≡ error_line (codes "In " ++ id ++ codes ": too deep.")
+deep_bytes id text e = simp append_assoc e
+
+pub deep_text : (r : Refusal) (id : GlobalId) (printed text : List ℕ) → r ≡ deep id →
+    printed ≡ id_text id →
+    text ≡ codes "Error: In " ++ (printed ++ codes ": too deep.\n") →
+    IsRefusalLine r text
+deep_text r id printed text is named e =
+    line_as r (deep id) text _ is
+    (deep_bytes printed text e ∙ ap (λ (b : List ℕ). error_line (codes "In " ++ b ++ codes ": too deep.")) named)
+    deep_line

@@ -1,5 +1,7 @@
 ghost use Rattle.std.specs.Prelude.{◌≡◌, ◌++◌, IfOk, OnOk, Ok, string_bytes};
+ghost use Rattle.cic_env.specs.Declarations.{declaration};
 ghost use Rattle.cic_env.specs.Environments.{items};
+ghost use Rattle.cic_rules.specs.Environment.{axiom_of};
 ghost use Rattle.cic_terms.specs.Denotes.{tree};
 ghost use Rattle.cic_top.specs.Texts.{Prints, AxiomLines, IsAxiomList, IsRefusalLine, id_text, word_line, line_text, lines_text};
 ghost use Rattle.cic_top.specs.Views.{refusal_of};
@@ -39,6 +41,14 @@ fn printed_id(alloc: Global, id: &GlobalId) -> Result<String, NoMemory>
     with_memory(format!(in alloc; "{}.{}", id.lib.text(), id.name.text()))
 }
 
+/// The id and the type of an axiom, which is the one declaration of this language.
+fn axiom_parts(decl: &Decl) -> (&GlobalId, &Term)
+    ensures { declaration decl.now ≡ axiom_of result.0.now (tree result.1.now) }
+{
+    let Decl::Axiom { id, ty } = decl;
+    (id, ty)
+}
+
 /// The axioms of the environment, each a printed id with its printed type, in the order of the ids.
 fn sorted_axioms(alloc: Global, env: &Env) -> Result<BTreeMap<String, String>, NoMemory>
     requires { HasAxiomLines (items env.now) }
@@ -46,14 +56,11 @@ fn sorted_axioms(alloc: Global, env: &Env) -> Result<BTreeMap<String, String>, N
 {
     let mut sorted = BTreeMap::new(alloc);
     for decl in env.decls() {
-        match decl {
-            Decl::Axiom { id, ty } => {
-                let id = printed_id(alloc, id)?;
-                let ty = with_memory(String::from_str(alloc, term_text(ty)))?;
-                if sorted.insert(id, ty).is_err() {
-                    return Err(NoMemory);
-                }
-            }
+        let (id, ty) = axiom_parts(decl);
+        let id = printed_id(alloc, id)?;
+        let ty = with_memory(String::from_str(alloc, term_text(ty)))?;
+        if sorted.insert(id, ty).is_err() {
+            return Err(NoMemory);
         }
     }
     Ok(sorted)

@@ -1,4 +1,4 @@
-use Rattle.std.proofs.Common.{◌≡◌, ◌++◌, codes}
+use Rattle.std.proofs.Common.{ℕ, List, ◌≡◌, ◌++◌, codes, ap, ◌∙◌, append_assoc}
 use Rattle.std.specs.String.{string_bytes}
 use Rattle.cic_top.specs.Texts.{id_text}
 use Rattle.cic_top.proofs.Printed.{made_text}
@@ -9,4 +9,5 @@ returns c = made_text c.format.result c.with_memory.result
     (λ s. string_bytes s ≡ c.text.result.now ++ (codes "." ++ c.text-2.result.now))
     (λ s. string_bytes s ≡ id_text c.args.id.now)
     c.with_memory.ensures c.format.ensures.ok
-    (λ s e. ?)
+    (λ s e. simp append_assoc (e ∙ (ap (λ (b : List ℕ). b ++ (codes "." ++ c.text-2.result.now)) c.text.ensures.value
+        ∙ ap (λ (b : List ℕ). c.args.id.now.lib ++ (codes "." ++ b)) c.text-2.ensures.value)))
