@@ -1,5 +1,5 @@
 -- The lines of the list of axioms, as the program makes them.
-use Rattle.std.proofs.Common.{ℕ, List, [], ◌∷◌, ◌++◌, ◌≡◌, refl, sym, ap, ◌∙◌, map, Bool, true, codes, Result, Ok, Err, IfOk, OnOk, false, length, drop, get_or, ◌<◌, ◌+◌, decimal, append_assoc, subst, rules, arith}
+use Rattle.std.proofs.Common.{ℕ, List, [], ◌∷◌, ◌++◌, ◌≡◌, refl, sym, ap, ◌∙◌, map, true, codes, Result, Ok, Err, IfOk, OnOk, false, length, drop, get_or, ◌<◌, ◌+◌, decimal, append_assoc, subst, rules}
 use Rattle.std.specs.Ordering.{nat_cmp, is_eq, match_ordering}
 use Rattle.std.specs.Cmp.Lexicographic.{slice_cmp}
 use Rattle.std.specs.declared.cmp.Ordering.{Ordering}
@@ -13,7 +13,7 @@ use Rattle.std.specs.BTreeMap.{insert_entry}
 use Rattle.std.proofs.lemmas.List.{drop_more}
 use Rattle.std.proofs.lemmas.Map.Text.{is_eq-slice_cmp}
 use Rattle.std.proofs.lemmas.Slice.Eq.{bytes_eq-Decides}
-use Rattle.cic_terms.specs.Tree.{Tree, sort, prop}
+use Rattle.cic_terms.specs.Tree.{Tree}
 use Rattle.cic_terms.specs.declared.name.GlobalId.{GlobalId}
 use Rattle.cic_rules.specs.Environment.{Environment, Declaration, declared, axiom_of}
 use Rattle.cic_env.specs.Declarations.{declaration, item}
@@ -141,6 +141,7 @@ made_text made (Err e) P Q is p more = tt
 pub made_from : {A E : Type 0} (made : Result A E) (x : A) (P : A → Type 0) → made ≡ Ok x → IfOk made P → P x
 made_from made x P is p = subst (λ t. IfOk t P) is p
 
+-- What holds where a call did not fail holds where a test says that it did not.
 pub on_no_fault : {A E : Type 0} (r : Result A E) (P : Type 0) → false ≡ is_err r → OnOk r P → P
 on_no_fault (Ok x) P is p = p
 on_no_fault (Err e) P is p = cc
@@ -155,7 +156,7 @@ pub first_left : (E : Environment) (sorted : List AxiomLine) (decls : List Decl)
 first_left E sorted decls i decl id type below is parts so_far =
     let first : drop i decls ≡ decl ∷ drop (i + 1) decls = drop_more decls i decl below ∙ ap (λ (d : Decl). d ∷ drop (i + 1) decls) (sym is) in
     let left : map item (drop i decls) ≡ declared (axiom_of id type) ∷ map item (drop (i + 1) decls) =
-        ap (map item) first ∙ ap (λ (d : Declaration). declared d ∷ map item (drop (i + 1) decls)) parts in
+    ap (map item) first ∙ ap (λ (d : Declaration). declared d ∷ map item (drop (i + 1) decls)) parts in
     subst (λ (F : Environment). SortedSoFar E F sorted) left so_far
 
 pub first_has_text : (E left : Environment) (sorted : List AxiomLine) (id : GlobalId) (type : Tree) →
@@ -204,7 +205,7 @@ pub spent_text : (r : Refusal) (id : GlobalId) (budget : ℕ) (printed text : Li
 spent_text r id budget printed text is named e =
     line_as r (spent id budget) text _ is
     (spent_bytes printed budget text e
-        ∙ ap (λ (b : List ℕ). error_line (codes "In " ++ b ++ codes ": the budget of " ++ decimal budget ++ codes " steps is spent.")) named)
+    ∙ ap (λ (b : List ℕ). error_line (codes "In " ++ b ++ codes ": the budget of " ++ decimal budget ++ codes " steps is spent.")) named)
     spent_line
 
 deep_bytes : (id text : List ℕ) →

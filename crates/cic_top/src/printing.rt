@@ -116,7 +116,10 @@ pub(crate) fn refusal_line(alloc: Global, refusal: &Refusal) -> Result<String, N
     ensures { IfOk result (λ text. IsRefusalLine (refusal_of refusal.now) (string_bytes text)) }
 {
     match refusal {
-        Refusal::NoFile { name } => with_memory(format!(in alloc; "Error: no file {}.\n", name.text())),
+        Refusal::NoFile { name } => with_memory(format!(in alloc;
+            "Error: no file {}.\n",
+            name.text()
+        )),
         Refusal::NotYet { name, place } => {
             with_memory(format!(in alloc; "Error: {}: not yet at byte {place}.\n", name.text()))
         }
@@ -126,7 +129,9 @@ pub(crate) fn refusal_line(alloc: Global, refusal: &Refusal) -> Result<String, N
         Refusal::Ill { .. } => unreachable!(),
         Refusal::Spent { id, budget } => {
             let id = printed_id(alloc, id)?;
-            with_memory(format!(in alloc; "Error: In {id}: the budget of {budget} steps is spent.\n"))
+            with_memory(format!(in alloc;
+                "Error: In {id}: the budget of {budget} steps is spent.\n"
+            ))
         }
         Refusal::Deep { id } => {
             let id = printed_id(alloc, id)?;

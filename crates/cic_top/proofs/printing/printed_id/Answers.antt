@@ -10,4 +10,4 @@ returns c = made_text c.format.result c.with_memory.result
     (λ s. string_bytes s ≡ id_text c.args.id.now)
     c.with_memory.ensures c.format.ensures.ok
     (λ s e. simp append_assoc (e ∙ (ap (λ (b : List ℕ). b ++ (codes "." ++ c.text-2.result.now)) c.text.ensures.value
-        ∙ ap (λ (b : List ℕ). c.args.id.now.lib ++ (codes "." ++ b)) c.text-2.ensures.value)))
+    ∙ ap (λ (b : List ℕ). c.args.id.now.lib ++ (codes "." ++ b)) c.text-2.ensures.value)))

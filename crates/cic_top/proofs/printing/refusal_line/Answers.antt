@@ -19,7 +19,7 @@ returns-in-NotYet c = made_text c.format-in-NotYet.result c.with_memory-in-NotYe
     (λ s. IsRefusalLine (refusal_of c.args.refusal.now) (string_bytes s))
     c.with_memory-in-NotYet.ensures c.format-in-NotYet.ensures.ok
     (λ s e. not_yet_text _ c.text-in-NotYet.result.now c.in-NotYet.place _
-        (ap refusal_of c.in-NotYet.is ∙ ap (λ (name : List ℕ). not_yet name c.in-NotYet.place) (sym c.text-in-NotYet.ensures.name)) e)
+    (ap refusal_of c.in-NotYet.is ∙ ap (λ (name : List ℕ). not_yet name c.in-NotYet.place) (sym c.text-in-NotYet.ensures.name)) e)
 
 pub returns-in-Duplicate : goal.returns-in-Duplicate
 returns-in-Duplicate c = made_text c.format-in-Duplicate.result c.with_memory-in-Duplicate.result
