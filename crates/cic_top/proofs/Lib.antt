@@ -1,1 +1,2 @@
 pub mod FoundSources
+pub mod Printed

@@ -1,14 +1,16 @@
-ghost use Rattle.std.specs.Prelude.{◌≡◌, ◌++◌, IfOk, OnOk, string_bytes};
+ghost use Rattle.std.specs.Prelude.{◌≡◌, ◌++◌, IfOk, OnOk, Ok, string_bytes};
+ghost use Rattle.cic_env.specs.Declarations.{declaration};
 ghost use Rattle.cic_env.specs.Environments.{items};
+ghost use Rattle.cic_rules.specs.Environment.{axiom_of};
 ghost use Rattle.cic_terms.specs.Denotes.{tree};
-ghost use Rattle.cic_top.specs.Texts.{Prints, AxiomLines, IsAxiomList, IsRefusalLine, id_text, word_line, line_text};
+ghost use Rattle.cic_top.specs.Texts.{Prints, AxiomLines, IsAxiomList, IsRefusalLine, id_text, word_line, line_text, lines_text};
 ghost use Rattle.cic_top.specs.Views.{refusal_of};
 ghost use Rattle.cic_top.specs.Lines.{HasText, HasAxiomLines, HasLine, AreSortedAxioms, lines_of};
 
 use crate::answer::Refusal;
 use cic_env::{Decl, Env};
 use cic_terms::{GlobalId, NoMemory, Sort, Term};
-use std::alloc::Global;
+use std::alloc::{AllocError, Global};
 use std::collections::BTreeMap;
 
 /// A term, printed.
@@ -22,11 +24,29 @@ fn term_text(t: &Term) -> &'static str
     }
 }
 
+/// A text, where there was memory for it.
+fn with_memory(text: Result<String, AllocError>) -> Result<String, NoMemory>
+    ensures { IfOk result (λ made. text ≡ Ok made) }
+{
+    match text {
+        Ok(text) => Ok(text),
+        Err(_) => Err(NoMemory),
+    }
+}
+
 /// An id, printed.
 fn printed_id(alloc: Global, id: &GlobalId) -> Result<String, NoMemory>
     ensures { IfOk result (λ text. string_bytes text ≡ id_text id.now) }
 {
-    format!(in alloc; "{}.{}", id.lib.text(), id.name.text()).map_err(|_| NoMemory)
+    with_memory(format!(in alloc; "{}.{}", id.lib.text(), id.name.text()))
+}
+
+/// The id and the type of an axiom, which is the one declaration of this language.
+fn axiom_parts(decl: &Decl) -> (&GlobalId, &Term)
+    ensures { declaration decl.now ≡ axiom_of result.0.now (tree result.1.now) }
+{
+    let Decl::Axiom { id, ty } = decl;
+    (id, ty)
 }
 
 /// The axioms of the environment, each a printed id with its printed type, in the order of the ids.
@@ -36,9 +56,9 @@ fn sorted_axioms(alloc: Global, env: &Env) -> Result<BTreeMap<String, String>, N
 {
     let mut sorted = BTreeMap::new(alloc);
     for decl in env.decls() {
-        let Decl::Axiom { id, ty } = decl;
+        let (id, ty) = axiom_parts(decl);
         let id = printed_id(alloc, id)?;
-        let ty = String::from_str(alloc, term_text(ty)).map_err(|_| NoMemory)?;
+        let ty = with_memory(String::from_str(alloc, term_text(ty)))?;
         if sorted.insert(id, ty).is_err() {
             return Err(NoMemory);
         }
@@ -46,14 +66,32 @@ fn sorted_axioms(alloc: Global, env: &Env) -> Result<BTreeMap<String, String>, N
     Ok(sorted)
 }
 
+/// Adds a part of a line.
+fn push_part(text: &mut String, part: &str) -> Result<(), NoMemory>
+    ensures { OnOk result (string_bytes text.new ≡ string_bytes text.old ++ part.now) }
+{
+    match text.push_str(part) {
+        Ok(()) => Ok(()),
+        Err(_) => Err(NoMemory),
+    }
+}
+
 /// Adds a line of the list of axioms.
 fn push_line(text: &mut String, id: &str, ty: &str) -> Result<(), NoMemory>
     ensures { OnOk result (string_bytes text.new ≡ string_bytes text.old ++ line_text (record { id = id.now; type = ty.now })) }
 {
-    for part in [id, " : ", ty, "\n"] {
-        if text.push_str(part).is_err() {
-            return Err(NoMemory);
-        }
+    push_part(text, id)?;
+    push_part(text, " : ")?;
+    push_part(text, ty)?;
+    push_part(text, "\n")
+}
+
+/// Adds a line for each axiom, in the order of the ids.
+fn push_lines(text: &mut String, sorted: &BTreeMap<String, String>) -> Result<(), NoMemory>
+    ensures { OnOk result (string_bytes text.new ≡ string_bytes text.old ++ lines_text (lines_of sorted.now.entries)) }
+{
+    for (id, ty) in sorted.iter() {
+        push_line(text, id.as_str(), ty.as_str())?;
     }
     Ok(())
 }
@@ -65,12 +103,10 @@ pub(crate) fn axiom_list(alloc: Global, env: &Env) -> Result<String, NoMemory>
 {
     let sorted = sorted_axioms(alloc, env)?;
     if sorted.is_empty() {
-        return String::from_str(alloc, "Closed under the global context\n").map_err(|_| NoMemory);
+        return with_memory(String::from_str(alloc, "Closed under the global context\n"));
     }
-    let mut text = String::from_str(alloc, "Axioms:\n").map_err(|_| NoMemory)?;
-    for (id, ty) in sorted.iter() {
-        push_line(&mut text, id.as_str(), ty.as_str())?;
-    }
+    let mut text = with_memory(String::from_str(alloc, "Axioms:\n"))?;
+    push_lines(&mut text, &sorted)?;
     Ok(text)
 }
 
@@ -79,28 +115,34 @@ pub(crate) fn refusal_line(alloc: Global, refusal: &Refusal) -> Result<String, N
     requires { HasLine (refusal_of refusal.now) }
     ensures { IfOk result (λ text. IsRefusalLine (refusal_of refusal.now) (string_bytes text)) }
 {
-    let line = match refusal {
-        Refusal::NoFile { name } => format!(in alloc; "Error: no file {}.\n", name.text()),
+    match refusal {
+        Refusal::NoFile { name } => with_memory(format!(in alloc;
+            "Error: no file {}.\n",
+            name.text()
+        )),
         Refusal::NotYet { name, place } => {
-            format!(in alloc; "Error: {}: not yet at byte {place}.\n", name.text())
+            with_memory(format!(in alloc; "Error: {}: not yet at byte {place}.\n", name.text()))
         }
-        Refusal::Duplicate { name } => format!(in alloc; "Error: duplicate name {}.\n", name.text()),
+        Refusal::Duplicate { name } => {
+            with_memory(format!(in alloc; "Error: duplicate name {}.\n", name.text()))
+        }
         Refusal::Ill { .. } => unreachable!(),
         Refusal::Spent { id, budget } => {
             let id = printed_id(alloc, id)?;
-            format!(in alloc; "Error: In {id}: the budget of {budget} steps is spent.\n")
+            with_memory(format!(in alloc;
+                "Error: In {id}: the budget of {budget} steps is spent.\n"
+            ))
         }
         Refusal::Deep { id } => {
             let id = printed_id(alloc, id)?;
-            format!(in alloc; "Error: In {id}: too deep.\n")
+            with_memory(format!(in alloc; "Error: In {id}: too deep.\n"))
         }
-    };
-    line.map_err(|_| NoMemory)
+    }
 }
 
 /// The line of a word that is not understood.
 pub(crate) fn word_line(alloc: Global, k: u32) -> Result<String, NoMemory>
     ensures { IfOk result (λ text. string_bytes text ≡ word_line k) }
 {
-    format!(in alloc; "Error: word {k} is not understood.\n").map_err(|_| NoMemory)
+    with_memory(format!(in alloc; "Error: word {k} is not understood.\n"))
 }

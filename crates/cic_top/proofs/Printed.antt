@@ -1,0 +1,223 @@
+-- The lines of the list of axioms, as the program makes them.
+use Rattle.std.proofs.Common.{ℕ, List, [], ◌∷◌, ◌++◌, ◌≡◌, refl, sym, ap, ◌∙◌, map, true, codes, Result, Ok, Err, IfOk, OnOk, false, length, drop, get_or, ◌<◌, ◌+◌, decimal, append_assoc, subst, rules}
+use Rattle.std.specs.Ordering.{nat_cmp, is_eq, match_ordering}
+use Rattle.std.specs.Cmp.Lexicographic.{slice_cmp}
+use Rattle.std.specs.declared.cmp.Ordering.{Ordering}
+use Rattle.std.specs.declared.cmp.Ordering.TheVariants.{Less, Equal, Greater}
+use Rattle.std.specs.declared.string.String.{String}
+use Rattle.std.specs.declared.alloc.Global.{Global}
+use Rattle.std.specs.Result.{is_err}
+use Rattle.std.specs.String.{string_cmp, string_bytes}
+use Rattle.std.specs.Str.{bytes_eq}
+use Rattle.std.specs.BTreeMap.{insert_entry}
+use Rattle.std.proofs.lemmas.List.{drop_more}
+use Rattle.std.proofs.lemmas.Map.Text.{is_eq-slice_cmp}
+use Rattle.std.proofs.lemmas.Slice.Eq.{bytes_eq-Decides}
+use Rattle.cic_terms.specs.Tree.{Tree}
+use Rattle.cic_terms.specs.declared.name.GlobalId.{GlobalId}
+use Rattle.cic_rules.specs.Environment.{Environment, Declaration, declared, axiom_of}
+use Rattle.cic_env.specs.Declarations.{declaration, item}
+use Rattle.cic_env.specs.declared.declaration.Decl.{Decl}
+use Rattle.cic_top.specs.Refusals.{Refusal, no_file, not_yet, duplicate, spent, deep}
+use Rattle.cic_top.specs.Texts.{Prints, prop_is_printed, AxiomLine, AxiomLines, no_item, one_axiom, id_text, put_line, insert_line, insert_lines, axiom_list, IsAxiomList, error_line, IsRefusalLine, no_file_line, not_yet_line, duplicate_line, spent_line, deep_line}
+use Rattle.cic_top.specs.Lines.{HasText, line_of, lines_of, AreSortedAxioms}
+
+-- A term is printed in one way.
+printed_as_prop : {t : Tree} {text : List ℕ} → Prints t text → text ≡ codes "Prop"
+printed_as_prop prop_is_printed = refl
+
+pub prints_same : {t : Tree} {a b : List ℕ} → Prints t a → Prints t b → a ≡ b
+prints_same p q = printed_as_prop p ∙ sym (printed_as_prop q)
+
+-- What the lines of an environment say of its first axiom.
+pub record FirstAxiom (id : GlobalId) (type : Tree) (E : Environment) (lines : List AxiomLine) : Type 0 where
+  pub text : List ℕ
+  pub rest : List AxiomLine
+  pub is_printed : Prints type text
+  pub others : AxiomLines E rest
+  pub is : lines ≡ record { id = id_text id; type = text } ∷ rest
+
+pub first_axiom : {id : GlobalId} {type : Tree} {E : Environment} {lines : List AxiomLine} →
+    AxiomLines (declared (axiom_of id type) ∷ E) lines →
+    FirstAxiom id type E lines
+first_axiom (one_axiom {text = text} {lines = lines} p others) = record { text = text; rest = lines; is_printed = p; others = others; is = refl }
+
+pub no_line : {lines : List AxiomLine} → AxiomLines [] lines → lines ≡ []
+no_line no_item = refl
+
+-- An entry put into a map of entries is its line put among their lines.
+same_bytes : (a b : List ℕ) → slice_cmp nat_cmp a b ≡ Equal → a ≡ b
+same_bytes a b h = let e : bytes_eq a b ≡ true = sym (is_eq-slice_cmp a b) ∙ ap is_eq h in
+    search (rules, bytes_eq-Decides a b, e)
+
+put_entry : (key value : String Global) (entry : String Global × String Global) (rest put : List (String Global × String Global)) (lines : List AxiomLine) (o : Ordering) →
+    slice_cmp nat_cmp (string_bytes key) (string_bytes entry.0) ≡ o →
+    lines_of put ≡ lines →
+    lines_of (match_ordering o ((key, value) ∷ entry ∷ rest) ((entry.0, value) ∷ rest) (entry ∷ put)) ≡ put_line (line_of (key, value)) o (line_of entry) (lines_of rest) lines
+put_entry key value entry rest put lines Less is h = refl
+put_entry key value entry rest put lines Equal is h =
+    ap (λ (bytes : List ℕ). (let line : AxiomLine = record { id = bytes; type = string_bytes value } in line) ∷ lines_of rest) (sym (same_bytes _ _ is))
+put_entry key value entry rest put lines Greater is h = ap (λ (later : List AxiomLine). line_of entry ∷ later) h
+
+pub insert_entry_line : (entries : List (String Global × String Global)) (key value : String Global) →
+    lines_of (insert_entry string_cmp entries key value) ≡ insert_line (lines_of entries) (line_of (key, value))
+insert_entry_line [] key value = refl
+insert_entry_line (entry ∷ entries) key value =
+    put_entry key value entry entries (insert_entry string_cmp entries key value) (insert_line (lines_of entries) (line_of (key, value)))
+    (slice_cmp nat_cmp (string_bytes key) (string_bytes entry.0)) refl (insert_entry_line entries key value)
+
+-- Lines with one put among them are some.
+put_some : (new line : AxiomLine) (rest put : List AxiomLine) (o : Ordering) → put_line new o line rest put ≡ [] → ⊥
+put_some new line rest put Less e = cc
+put_some new line rest put Equal e = cc
+put_some new line rest put Greater e = cc
+
+insert_some : (lines : List AxiomLine) (new : AxiomLine) → insert_line lines new ≡ [] → ⊥
+insert_some [] new e = cc
+insert_some (line ∷ lines) new e = put_some new line lines (insert_line lines new) (slice_cmp nat_cmp new.id line.id) e
+
+sorted_none : (sorted lines : List AxiomLine) → insert_lines sorted lines ≡ [] → (sorted ≡ []) × (lines ≡ [])
+sorted_none sorted [] e = (e, refl)
+sorted_none sorted (line ∷ lines) e = absurd (insert_some sorted line (sorted_none (insert_line sorted line) lines e).0)
+
+pub no_sorted_line : (lines : List AxiomLine) → insert_lines [] lines ≡ [] → lines ≡ []
+no_sorted_line lines e = (sorted_none [] lines e).1
+
+-- The lines so far, with those that are left, are the lines of the whole environment.
+pub record SortedSoFar (E left : Environment) (sorted : List AxiomLine) : Type 0 where
+  pub lines : List AxiomLine
+  pub rest : List AxiomLine
+  pub each : AxiomLines E lines
+  pub each_left : AxiomLines left rest
+  pub order : insert_lines sorted rest ≡ insert_lines [] lines
+
+pub sorted_at_start : (E left : Environment) (lines : List AxiomLine) → left ≡ E → AxiomLines E lines → SortedSoFar E left []
+sorted_at_start E left lines same each = record {
+  lines = lines;
+  rest = lines;
+  each = each;
+  each_left = subst (λ (F : Environment). AxiomLines F lines) (sym same) each;
+  order = refl;
+}
+
+-- One more axiom is put among the lines.
+pub sorted_more : (E left : Environment) (id : GlobalId) (type : Tree) (entries : List (String Global × String Global)) (key value : String Global) →
+    SortedSoFar E (declared (axiom_of id type) ∷ left) (lines_of entries) →
+    string_bytes key ≡ id_text id →
+    Prints type (string_bytes value) →
+    SortedSoFar E left (lines_of (insert_entry string_cmp entries key value))
+sorted_more E left id type entries key value sorted named printed =
+    let first : FirstAxiom id type left sorted.rest = first_axiom sorted.each_left in
+    let typed : string_bytes value ≡ first.text = prints_same printed first.is_printed in
+    let put : lines_of (insert_entry string_cmp entries key value) ≡ insert_line (lines_of entries) (line_of (key, value)) = insert_entry_line entries key value in
+    let line : line_of (key, value) ≡ record { id = id_text id; type = first.text } = cc in
+    record {
+      lines = sorted.lines;
+      rest = first.rest;
+      each = sorted.each;
+      each_left = first.others;
+      order = (ap (λ (ls : List AxiomLine). insert_lines ls first.rest) (put ∙ ap (insert_line (lines_of entries)) line)
+          ∙ ap (insert_lines (lines_of entries)) (sym first.is)) ∙ sorted.order;
+    }
+
+pub sorted_at_end : (E left : Environment) (sorted : List AxiomLine) → left ≡ [] → SortedSoFar E left sorted → AreSortedAxioms E sorted
+sorted_at_end E left sorted none so_far =
+    let no : so_far.rest ≡ [] = no_line (subst (λ (F : Environment). AxiomLines F so_far.rest) none so_far.each_left) in
+    record {
+      lines = so_far.lines;
+      each = so_far.each;
+      order = ap (insert_lines sorted) (sym no) ∙ so_far.order;
+    }
+
+-- What holds of a text that was made holds of it where it is handed on.
+pub made_text : {A E F : Type 0} (made : Result A E) (handed : Result A F) (P Q : A → Type 0) →
+    IfOk handed (λ x. made ≡ Ok x) →
+    IfOk made P →
+    ((x : A) → P x → Q x) →
+    IfOk handed Q
+made_text made (Ok x) P Q is p more = more x (subst (λ t. IfOk t P) is p)
+made_text made (Err e) P Q is p more = tt
+
+pub made_from : {A E : Type 0} (made : Result A E) (x : A) (P : A → Type 0) → made ≡ Ok x → IfOk made P → P x
+made_from made x P is p = subst (λ t. IfOk t P) is p
+
+-- What holds where a call did not fail holds where a test says that it did not.
+pub on_no_fault : {A E : Type 0} (r : Result A E) (P : Type 0) → false ≡ is_err r → OnOk r P → P
+on_no_fault (Ok x) P is p = p
+on_no_fault (Err e) P is p = cc
+
+-- The first of the declarations that are left is an axiom.
+pub first_left : (E : Environment) (sorted : List AxiomLine) (decls : List Decl) (i : ℕ) (decl : Decl) (id : GlobalId) (type : Tree) →
+    i < length decls →
+    decl ≡ get_or decls i decl →
+    declaration decl ≡ axiom_of id type →
+    SortedSoFar E (map item (drop i decls)) sorted →
+    SortedSoFar E (declared (axiom_of id type) ∷ map item (drop (i + 1) decls)) sorted
+first_left E sorted decls i decl id type below is parts so_far =
+    let first : drop i decls ≡ decl ∷ drop (i + 1) decls = drop_more decls i decl below ∙ ap (λ (d : Decl). d ∷ drop (i + 1) decls) (sym is) in
+    let left : map item (drop i decls) ≡ declared (axiom_of id type) ∷ map item (drop (i + 1) decls) =
+    ap (map item) first ∙ ap (λ (d : Declaration). declared d ∷ map item (drop (i + 1) decls)) parts in
+    subst (λ (F : Environment). SortedSoFar E F sorted) left so_far
+
+pub first_has_text : (E left : Environment) (sorted : List AxiomLine) (id : GlobalId) (type : Tree) →
+    SortedSoFar E (declared (axiom_of id type) ∷ left) sorted →
+    HasText type
+first_has_text E left sorted id type so_far =
+    let first : FirstAxiom id type left so_far.rest = first_axiom so_far.each_left in
+    (first.text, first.is_printed)
+
+-- The list where there is no axiom.
+pub closed_list : (E : Environment) (sorted : List AxiomLine) → AreSortedAxioms E sorted → sorted ≡ [] →
+    IsAxiomList E (codes "Closed under the global context\n")
+closed_list E sorted axioms none =
+    let no : axioms.lines ≡ [] = no_sorted_line axioms.lines (sym axioms.order ∙ none) in
+    record { lines = axioms.lines; each = axioms.each; text = sym (ap axiom_list no) }
+
+-- The lines of refusals, as they are put together.
+line_as : (r s : Refusal) (text line : List ℕ) → r ≡ s → text ≡ line → IsRefusalLine s line → IsRefusalLine r text
+line_as r s text line same_refusal same_text is =
+    subst (λ (x : Refusal). IsRefusalLine x text) (sym same_refusal) (subst (λ (t : List ℕ). IsRefusalLine s t) (sym same_text) is)
+
+pub no_file_text : (r : Refusal) (name text : List ℕ) → r ≡ no_file name →
+    text ≡ codes "Error: no file " ++ (name ++ codes ".\n") →
+    IsRefusalLine r text
+no_file_text r name text is e = line_as r (no_file name) text _ is (simp append_assoc e) no_file_line
+
+pub not_yet_text : (r : Refusal) (name : List ℕ) (place : ℕ) (text : List ℕ) → r ≡ not_yet name place →
+    text ≡ codes "Error: " ++ (name ++ (codes ": not yet at byte " ++ (decimal place ++ codes ".\n"))) →
+    IsRefusalLine r text
+not_yet_text r name place text is e = line_as r (not_yet name place) text _ is (simp append_assoc e) not_yet_line
+
+pub duplicate_text : (r : Refusal) (name text : List ℕ) → r ≡ duplicate name →
+    text ≡ codes "Error: duplicate name " ++ (name ++ codes ".\n") →
+    IsRefusalLine r text
+duplicate_text r name text is e = line_as r (duplicate name) text _ is (simp append_assoc e) duplicate_line
+
+spent_bytes : (id : List ℕ) (budget : ℕ) (text : List ℕ) →
+    text ≡ codes "Error: In " ++ (id ++ (codes ": the budget of " ++ (decimal budget ++ codes " steps is spent.\n"))) →
+    text ≡ error_line (codes "In " ++ id ++ codes ": the budget of " ++ decimal budget ++ codes " steps is spent.")
+spent_bytes id budget text e = simp append_assoc e
+
+pub spent_text : (r : Refusal) (id : GlobalId) (budget : ℕ) (printed text : List ℕ) → r ≡ spent id budget →
+    printed ≡ id_text id →
+    text ≡ codes "Error: In " ++ (printed ++ (codes ": the budget of " ++ (decimal budget ++ codes " steps is spent.\n"))) →
+    IsRefusalLine r text
+spent_text r id budget printed text is named e =
+    line_as r (spent id budget) text _ is
+    (spent_bytes printed budget text e
+    ∙ ap (λ (b : List ℕ). error_line (codes "In " ++ b ++ codes ": the budget of " ++ decimal budget ++ codes " steps is spent.")) named)
+    spent_line
+
+deep_bytes : (id text : List ℕ) →
+    text ≡ codes "Error: In " ++ (id ++ codes ": too deep.\n") →
+    text ≡ error_line (codes "In " ++ id ++ codes ": too deep.")
+deep_bytes id text e = simp append_assoc e
+
+pub deep_text : (r : Refusal) (id : GlobalId) (printed text : List ℕ) → r ≡ deep id →
+    printed ≡ id_text id →
+    text ≡ codes "Error: In " ++ (printed ++ codes ": too deep.\n") →
+    IsRefusalLine r text
+deep_text r id printed text is named e =
+    line_as r (deep id) text _ is
+    (deep_bytes printed text e ∙ ap (λ (b : List ℕ). error_line (codes "In " ++ b ++ codes ": too deep.")) named)
+    deep_line
