@@ -1,0 +1,4 @@
+-- Laws of the command line and of what it compiles.
+pub mod CommandLines
+pub mod Unambiguous
+pub mod Compilations
