@@ -11,15 +11,15 @@ use Rattle.cic_top.specs.Lines.{HasAxiomLines, HasLine}
 use Rattle.cic_top.specs.Compilation.{StandsFor, prop_stands, Adds, adds_axiom, IsRefused, duplicate_name, not_accepted, default_budget, id_of, Compiled, environment, refusal, Runs, all_run, one_adds, one_is_refused, Compiles, is_not_yet, is_read}
 
 -- One more axiom has one more line.
-one_line_more : {E : Environment} {lines : List AxiomLine} {id : GlobalId} {type : Tree} {text : List ℕ} →
+one_line_more : {E : Environment} {lines : List AxiomLine} (id : GlobalId) {type : Tree} {text : List ℕ} →
     AxiomLines E lines → Prints type text →
     AxiomLines (E ++ declared (axiom_of id type) ∷ []) (lines ++ record { id = id_text id; type = text } ∷ [])
-one_line_more no_item printed = one_axiom printed no_item
-one_line_more (one_axiom first lines) printed = one_axiom first (one_line_more lines printed)
+one_line_more id no_item printed = one_axiom printed no_item
+one_line_more id (one_axiom first lines) printed = one_axiom first (one_line_more id lines printed)
 
 lines_added : {library : List ℕ} {E E' : Environment} {s : Sentence} → HasAxiomLines E → Adds library E s E' → HasAxiomLines E'
 lines_added {library = library} (lines, each) (adds_axiom {name = name} new prop_stands accepted) =
-    (lines ++ record { id = id_text (id_of library name); type = _ } ∷ [], one_line_more each prop_is_printed)
+    (lines ++ record { id = id_text (id_of library name); type = _ } ∷ [], one_line_more _ each prop_is_printed)
 
 -- A refused sentence has a line: no check of an axiom of type Prop is refused.
 line_of_refused : {library : List ℕ} {E : Environment} {s : Sentence} {r : Refusal} → IsRefused library E s r → HasLine r

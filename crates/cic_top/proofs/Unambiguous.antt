@@ -7,7 +7,7 @@ use Rattle.cic_rules.specs.Environment.{Environment}
 use Rattle.gal_parser.specs.Tokens.{after_blanks}
 use Rattle.gal_parser.specs.Grammar as G
 use Rattle.gal_parser.specs.Grammar.{SpellsSentences, no_sentence, one_more, Reads, NotYetAt, too_long, unread, RawTerm, Sentence}
-use Rattle.gal_parser.proofs.GrammarLaws.{one_sentence, sentence_shortens, as_long, no_more}
+use Rattle.gal_parser.proofs.GrammarLaws.{one_sentence, sentence_shortens, no_sentence_at_end}
 use Rattle.cic_top.specs.CommandLine.{IsName, source_name, CommandLine, coqc, BeginsCommandLine, IsCommandLine, FirstNotUnderstood}
 use Rattle.cic_top.specs.Refusals.{Refusal}
 use Rattle.cic_top.specs.Compilation.{StandsFor, prop_stands, Adds, adds_axiom, IsRefused, duplicate_name, not_accepted, Compiled, environment, refusal, Runs, all_run, one_adds, one_is_refused, Compiles, is_not_yet, is_read}
@@ -20,35 +20,43 @@ one_library {a = a} {b = b} (coqc n e) (coqc n' e') =
 -- Words are no command line and misread.
 pub no_command_line-misread : {words : List (List ℕ)} {k : ℕ} {a : List ℕ} → FirstNotUnderstood words k → CommandLine words a → ⊥
 no_command_line-misread {words = words} {k = k} {a = a} misread line = elim misread.this [
-  inl w ↦ w.1 (drop k words, a, subst (λ ws. CommandLine ws a) (sym (take-append-drop k words)) line)
-| inr w ↦ w.1 (a, line)
+    inl w ↦ w.1 (drop k words, a, subst (λ ws. CommandLine ws a) (sym (take-append-drop k words)) line)
+  | inr w ↦ w.1 (a, line)
 ]
 
 -- No word before the first that is not understood is another such word.
 no_earlier_word : {words : List (List ℕ)} {j k : ℕ} → FirstNotUnderstood words j → FirstNotUnderstood words k → j < k → ⊥
 no_earlier_word {words = words} {j = j} {k = k} first second h = elim first.this [
-  inl w ↦ w.1 (second.earlier j h)
-| inr w ↦ elim second.this [ inl v ↦ absurd (omega arith) | inr v ↦ absurd (omega arith) ]
+    inl w ↦ w.1 (second.earlier j h)
+  | inr w ↦ elim second.this [ inl v ↦ absurd (omega arith) | inr v ↦ absurd (omega arith) ]
 ]
 
 -- One word is the first that is not understood.
 pub one_word : {words : List (List ℕ)} {j k : ℕ} → FirstNotUnderstood words j → FirstNotUnderstood words k → j ≡ k
 one_word {j = j} {k = k} first second = elim (cases_order j k) [
-  inl e ↦ e
-| inr apart ↦ elim apart [ inl h ↦ absurd (no_earlier_word first second h) | inr h ↦ absurd (no_earlier_word second first h) ]
+    inl e ↦ e
+  | inr apart ↦ elim apart [ inl h ↦ absurd (no_earlier_word first second h) | inr h ↦ absurd (no_earlier_word second first h) ]
 ]
+
+-- What sentences leave is at most as long as the text.
+leave_at_most : {s r : List ℕ} {cs : List Sentence} → SpellsSentences s r cs → length r ≤ length s
+leave_at_most no_sentence = omega arith
+leave_at_most (one_more h t) = let a = sentence_shortens h in let b = leave_at_most t in omega arith
+
+-- Sentences that take no byte leave the text, and so do those of blanks alone, which are none.
+leave_all : {q r : List ℕ} {es : List Sentence} → length q ≤ length r → SpellsSentences q r es → q ≡ r
+leave_all le no_sentence = refl
+leave_all le (one_more h t) = let a = sentence_shortens h in let b = leave_at_most t in absurd (omega arith)
+
+none_of_blanks : {q r : List ℕ} {es : List Sentence} → after_blanks q ≡ [] → SpellsSentences q r es → (es ≡ []) × (q ≡ r)
+none_of_blanks e no_sentence = (refl, refl)
+none_of_blanks e (one_more h t) = absurd (no_sentence_at_end e h)
 
 -- Of two lists of sentences with which a text begins, the longer one goes on from the other.
 goes_on_to : {s q r : List ℕ} {ds cs : List Sentence} → SpellsSentences s q ds → SpellsSentences s r cs → length r ≤ length q →
     (es : List Sentence) × SpellsSentences q r es × (cs ≡ ds ++ es)
 goes_on_to {cs = cs} no_sentence whole le = (cs, whole, refl)
-goes_on_to (one_more h t) no_sentence le =
-    let shorter = sentence_shortens h in
-    let same = as_long le (one_more h t) in
-    let size = ap length same in
-    let after = as_long (omega arith) t in
-    let size' = ap length after in
-    absurd (omega arith)
+goes_on_to (one_more h t) no_sentence le = let a = sentence_shortens h in let b = leave_at_most t in absurd (omega arith)
 goes_on_to {r = r} (one_more h t) (one_more {cs = cs'} h' t') le =
     let same = one_sentence h' h in
     let (es, rest, e) = goes_on_to t (subst (λ z. SpellsSentences z r cs') same.1 t') le in
@@ -58,13 +66,13 @@ goes_on_to {r = r} (one_more h t) (one_more {cs = cs'} h' t') le =
 -- A source is read in one way.
 pub one_reading : {s : List ℕ} {cs ds : List Sentence} → Reads s cs → Reads s ds → cs ≡ ds
 one_reading {cs = cs} {ds = ds} a b = elim (cases_lt (length a.rest) (length b.rest)) [
-  inl h ↦
+    inl h ↦
     let (es, more, e) = goes_on_to b.sentences a.sentences (omega arith) in
-    let nothing = (no_more b.blanks more).0 in
+    let nothing = (none_of_blanks b.blanks more).0 in
     e ∙ ap (λ z. ds ++ z) nothing ∙ append-nil ds
-| inr h ↦
+  | inr h ↦
     let (es, more, e) = goes_on_to a.sentences b.sentences h in
-    let nothing = (no_more a.blanks more).0 in
+    let nothing = (none_of_blanks a.blanks more).0 in
     sym (e ∙ ap (λ z. cs ++ z) nothing ∙ append-nil cs)
 ]
 
@@ -73,7 +81,7 @@ pub no_place_if_read : {s : List ℕ} {place : ℕ} {cs : List Sentence} → Not
 no_place_if_read (too_long over e) read = let short = read.short in absurd (omega arith)
 no_place_if_read (unread short at) read =
     let (es, more, e) = goes_on_to read.sentences at.leaves.spelled (at.leaves.longest read.rest _ read.sentences) in
-    let same = (no_more read.blanks more).1 in
+    let same = (none_of_blanks read.blanks more).1 in
     let byte = at.byte in
     let none = ap length (subst (λ z. after_blanks z ≡ []) same read.blanks) in
     omega arith
@@ -86,7 +94,7 @@ one_place (unread short at) (too_long over e) = absurd (omega arith)
 one_place (unread short at) (unread short' at') =
     let le = at.leaves.longest at'.rest _ at'.leaves.spelled in
     let (es, more, e) = goes_on_to at'.leaves.spelled at.leaves.spelled le in
-    let same = as_long (at'.leaves.longest at.rest _ at.leaves.spelled) more in
+    let same = leave_all (at'.leaves.longest at.rest _ at.leaves.spelled) more in
     let size = ap (λ z. length (after_blanks z)) same in
     let position = at.position in
     let position' = at'.position in
