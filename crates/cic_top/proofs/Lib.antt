@@ -2,3 +2,4 @@
 pub mod CommandLines
 pub mod Unambiguous
 pub mod Compilations
+pub mod FileNames
