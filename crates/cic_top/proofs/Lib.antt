@@ -3,3 +3,4 @@ pub mod CommandLines
 pub mod Unambiguous
 pub mod Compilations
 pub mod FileNames
+pub mod Sentences
