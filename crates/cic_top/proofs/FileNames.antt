@@ -73,11 +73,11 @@ no_zero_in_end (suc (suc k), within, is) = absurd (omega arith)
 
 end_is_text : IsUtf8 (codes ".v")
 unfolding lib.Utf8.encode
-end_is_text = (codes ".v", refl, refl)
+end_is_text = (codes ".v", (refl, refl))
 
-not_above_name : (library : List ℕ) → library ++ codes ".v" ≡ codes ".." → ⊥
-not_above_name [] e = cc
-not_above_name (b ∷ bytes) e = let size = ap length e in absurd (omega (arith, length-append bytes (codes ".v")))
+last_of_two : (library : List ℕ) (a b : ℕ) → library ++ codes ".v" ≡ a ∷ b ∷ [] → b ≡ 118
+last_of_two [] a b e = sym (ap (λ l. get_or l 1 0) e)
+last_of_two (x ∷ bytes) a b e = let size = ap length e in absurd (omega (arith, length-append bytes (codes ".v")))
 
 -- The name of the source of a library.
 pub source_is_file_name : (library : List ℕ) → IsName library → IsFileName (source_name library)
@@ -91,5 +91,5 @@ source_is_file_name library name =
       no_slash = λ has. elim (Contains-append_cases library (codes ".v") 47 has) [ inl h ↦ no_slash_in library name.identifier h | inr h ↦ no_slash_in_end h ];
       no_zero = λ has. elim (Contains-append_cases library (codes ".v") 0 has) [ inl h ↦ no_zero_in library name.identifier h | inr h ↦ no_zero_in_end h ];
       not_here = λ e. let one = ap length e in absurd (omega arith);
-      not_above = not_above_name library;
+      not_above = λ e. let last = last_of_two library 46 46 e in absurd (omega arith);
     }

@@ -113,6 +113,7 @@ fn declare(alloc: Global, env: &mut Env, id: GlobalId, ty: Term) -> Result<(), S
 }
 
 /// Runs one sentence of the library.
+#[tactic(auto, using(crate::proofs::Sentences::adds_or_refuses, crate::proofs::Sentences::duplicate_refuses, crate::proofs::Sentences::stands_for_prop))]
 fn run_sentence(alloc: Global, library: &Name, env: &mut Env, command: &Command) -> Result<(), Stop>
     ensures { AddsOrRefuses library.now (items env.old) (sentence_of command.now) result (items env.new) }
 {
