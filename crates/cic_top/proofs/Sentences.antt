@@ -1,15 +1,19 @@
 -- A sentence whose name is new adds its axiom or is refused as the check of the axiom is.
-use Rattle.std.proofs.Common.{ℕ, List, [], ◌∷◌, ◌++◌, ◌≡◌, refl, sym, ap, subst, ◌∙◌, map}
+use Rattle.std.proofs.Common.{ℕ, zero, suc, List, [], ◌∷◌, ◌++◌, ◌≡◌, ◌≤◌, ◌<◌, ◌+◌, length, drop, refl, sym, ap, subst, ◌∙◌, map, add-one, arith}
+use Rattle.std.proofs.Math.ListN.{get_or}
+use Rattle.std.proofs.Math.Seq.{drop-cons}
 use Rattle.std.specs.Prelude.{Result, Ok, Err}
 use Rattle.cic_terms.specs.Tree.{Tree, sort, prop}
 use Rattle.cic_rules.specs.Environment.{Environment}
 use Rattle.gal_parser.specs.Grammar.{Sentence, RawTerm, axiom_sentence}
-use Rattle.gal_parser.specs.Views.{raw_term}
+use Rattle.gal_parser.specs.Views.{raw_term, sentence_of, sentences_of}
+use Rattle.gal_parser.specs.declared.command.Command.{Command}
 use Rattle.gal_parser.specs.declared.command.Raw.{Raw}
 use Rattle.gal_parser.specs.declared.command.Raw.TheVariants.{Prop}
 use Rattle.cic_top.specs.Refusals as R
-use Rattle.cic_top.specs.Compilation.{StandsFor, prop_stands, Declares, id_of, Adds, adds_axiom, IsRefused, duplicate_name, not_accepted, Compiled, Runs, all_run, one_adds, one_is_refused, refusal}
-use Rattle.cic_top.specs.Compiling.{StopsFor, DeclaresOrRefuses, AddsOrRefuses}
+use Rattle.cic_top.specs.Compilation.{StandsFor, prop_stands, Declares, id_of, Adds, adds_axiom, IsRefused, duplicate_name, not_accepted, Compiled, Runs, all_run, one_adds, one_is_refused, environment, refusal}
+use Rattle.cic_top.specs.Compiling.{StopsFor, DeclaresOrRefuses, AddsOrRefuses, RunsOrRefuses}
+use Rattle.cic_top.specs.Views.{refusal_of}
 use Rattle.cic_top.specs.declared.compiling.Stop.{Stop}
 use Rattle.cic_top.specs.declared.compiling.Stop.TheVariants.{Refused, NoMemory}
 
@@ -36,7 +40,40 @@ duplicate_refuses library name raw E NoMemory old e = tt
 pub prop_stands_for : (raw : Raw) → StandsFor (raw_term raw) (sort prop)
 prop_stands_for Prop = prop_stands
 
--- What the rest of the sentences gives from an environment, all give from the one before.
-pub runs_on : {library : List ℕ} {E E' : Environment} {s : Sentence} {ss : List Sentence} {compiled : Compiled} →
-    Adds library E s E' → Runs library E' ss compiled → Runs library E (s ∷ ss) compiled
-runs_on adds rest = one_adds adds rest
+-- What the sentences from a place on give from this environment, all give from the first.
+abbrev pub RestGives : List ℕ → Environment → Environment → List Command → ℕ → Type 0
+RestGives library first E commands i =
+    (compiled : Compiled) → Runs library E (sentences_of (drop i commands)) compiled → Runs library first (sentences_of commands) compiled
+
+pub rest_gives_first : (library : List ℕ) (E : Environment) (commands : List Command) → RestGives library E E commands 0
+rest_gives_first library E commands = λ compiled runs. runs
+
+nothing_behind : {A : Type 0} (xs : List A) (i : ℕ) → length xs ≤ i → drop i xs ≡ []
+nothing_behind [] zero h = refl
+nothing_behind [] (suc i) h = refl
+nothing_behind (x ∷ xs) zero h = absurd (omega arith)
+nothing_behind (x ∷ xs) (suc i) h = nothing_behind xs i (omega arith)
+
+-- The sentence at a place comes before those behind it.
+from_place : (commands : List Command) (i : ℕ) (command : Command) → i < length commands → command ≡ get_or commands i command →
+    drop i commands ≡ command ∷ drop (i + 1) commands
+from_place commands i command within is = rw add-one (drop-cons commands i command within ∙ ap (λ x. x ∷ drop (suc i) commands) (sym is))
+
+pub rest_gives_more : (library : List ℕ) (first E E' : Environment) (commands : List Command) (i : ℕ) (command : Command) →
+    i < length commands → command ≡ get_or commands i command → Adds library E (sentence_of command) E' →
+    RestGives library first E commands i → RestGives library first E' commands (i + 1)
+rest_gives_more library first E E' commands i command within is adds rest = λ compiled runs.
+    rest compiled (subst (λ l. Runs library E (sentences_of l) compiled) (sym (from_place commands i command within is)) (one_adds adds runs))
+
+pub rest_gives_refusal : (library : List ℕ) (first E E' : Environment) (commands : List Command) (i : ℕ) (command : Command) (stop : Stop) →
+    i < length commands → command ≡ get_or commands i command → AddsOrRefuses library E (sentence_of command) (Err stop) E' →
+    RestGives library first E commands i → RunsOrRefuses library first (sentences_of commands) (Err stop) E'
+rest_gives_refusal library first E E' commands i command (Refused r) within is refused rest =
+    rest (refusal (refusal_of r))
+    (subst (λ l. Runs library E (sentences_of l) (refusal (refusal_of r))) (sym (from_place commands i command within is)) (one_is_refused refused))
+rest_gives_refusal library first E E' commands i command NoMemory within is refused rest = tt
+
+pub rest_gives_all : (library : List ℕ) (first E : Environment) (commands : List Command) (i : ℕ) → length commands ≤ i →
+    RestGives library first E commands i → Runs library first (sentences_of commands) (environment E)
+rest_gives_all library first E commands i all rest =
+    rest (environment E) (subst (λ l. Runs library E (sentences_of l) (environment E)) (sym (nothing_behind commands i all)) all_run)

@@ -9,7 +9,7 @@ use Rattle.cic_env.specs.Environments.{items}
 use Rattle.cic_env.specs.declared.environment.Env.{Env}
 use Rattle.gal_parser.specs.Grammar.{Sentence}
 use Rattle.cic_top.specs.Refusals as R
-use Rattle.cic_top.specs.Compilation.{Adds, IsRefused, default_budget, check_refusal, Compiles, environment, refusal}
+use Rattle.cic_top.specs.Compilation.{Adds, IsRefused, default_budget, check_refusal, Runs, Compiles, environment, refusal}
 use Rattle.cic_top.specs.Views.{refusal_of}
 use Rattle.cic_top.specs.declared.compiling.Stop.{Stop}
 use Rattle.cic_top.specs.declared.compiling.Stop.TheVariants.{Refused, NoMemory}
@@ -36,6 +36,12 @@ abbrev pub AddsOrRefuses : List ℕ → Environment → Sentence → Result (Uni
 AddsOrRefuses library old s (Ok _) new = Adds library old s new
 AddsOrRefuses library old s (Err (Refused r)) new = IsRefused library old s (refusal_of r)
 AddsOrRefuses library old s (Err NoMemory) new = Unit {0}
+
+-- The sentences run from the old environment to the new one, or one of them is refused.
+abbrev pub RunsOrRefuses : List ℕ → Environment → List Sentence → Result (Unit {0}) Stop → Environment → Type 0
+RunsOrRefuses library old ss (Ok _) new = Runs library old ss (environment new)
+RunsOrRefuses library old ss (Err (Refused r)) new = Runs library old ss (refusal (refusal_of r))
+RunsOrRefuses library old ss (Err NoMemory) new = Unit {0}
 
 -- The source is compiled to the environment, or refused.
 abbrev pub CompilesTo : List ℕ → List ℕ → Result Env Stop → Type 0

@@ -3,12 +3,12 @@ ghost use Rattle.cic_terms.specs.Tree.{sort, prop};
 ghost use Rattle.cic_env.specs.Declarations.{declaration, decl_id, item};
 ghost use Rattle.cic_env.specs.Environments.{items};
 ghost use Rattle.cic_terms.specs.Denotes.{tree};
-ghost use Rattle.gal_parser.specs.Views.{raw_term, sentence_of};
+ghost use Rattle.gal_parser.specs.Views.{raw_term, sentence_of, sentences_of};
 ghost use Rattle.cic_top.specs.CommandLine.{IsName, source_name};
 ghost use Rattle.cic_kernel.specs.Language.{IsOfLanguage};
-ghost use Rattle.cic_top.specs.Refusals.{duplicate};
+ghost use Rattle.cic_top.specs.Refusals.{duplicate, not_yet};
 ghost use Rattle.cic_top.specs.Compilation.{StandsFor, Declares, id_of};
-ghost use Rattle.cic_top.specs.Compiling.{StopsFor, PassesOrRefuses, DeclaresOrRefuses, AddsOrRefuses, CompilesTo};
+ghost use Rattle.cic_top.specs.Compiling.{StopsFor, PassesOrRefuses, DeclaresOrRefuses, AddsOrRefuses, RunsOrRefuses, CompilesTo};
 
 use crate::answer::Refusal;
 use cic_env::{Decl, Env, PushFault, Verdict};
@@ -139,21 +139,39 @@ pub(crate) fn source_file(alloc: Global, library: &Name) -> Result<FileName, NoM
     }
 }
 
+/// The refusal of a source that is not understood from a place on.
+fn not_yet(alloc: Global, library: &Name, place: u32) -> Stop
+    ensures { StopsFor result (not_yet (source_name library.now) place) }
+{
+    match source_file(alloc, library) {
+        Ok(name) => Stop::Refused(Refusal::NotYet { name, place }),
+        Err(_) => Stop::NoMemory,
+    }
+}
+
+/// Runs the sentences in order.
+fn run_sentences(alloc: Global, library: &Name, env: &mut Env, commands: &[Command]) -> Result<(), Stop>
+    ensures { RunsOrRefuses library.now (items env.old) (sentences_of commands.now) result (items env.new) }
+{
+    for command in commands {
+        run_sentence(alloc, library, env, command)?;
+    }
+    Ok(())
+}
+
 /// Compiles the source of a library.
 pub(crate) fn compile(alloc: Global, library: &Name, source: &[u8]) -> Result<Env, Stop>
     ensures { CompilesTo library.now source.now result }
 {
-    let commands = match parse(alloc, source) {
-        Ok(commands) => commands,
-        Err(ParseFault::NotYet { place }) => {
-            let name = source_file(alloc, library)?;
-            return Err(Stop::Refused(Refusal::NotYet { name, place }));
+    match parse(alloc, source) {
+        Ok(commands) => {
+            let mut env = Env::new(alloc);
+            match run_sentences(alloc, library, &mut env, commands.as_slice()) {
+                Ok(()) => Ok(env),
+                Err(stop) => Err(stop),
+            }
         }
-        Err(ParseFault::NoMemory) => return Err(Stop::NoMemory),
-    };
-    let mut env = Env::new(alloc);
-    for command in commands.as_slice() {
-        run_sentence(alloc, library, &mut env, command)?;
+        Err(ParseFault::NotYet { place }) => Err(not_yet(alloc, library, place)),
+        Err(ParseFault::NoMemory) => Err(Stop::NoMemory),
     }
-    Ok(env)
 }
