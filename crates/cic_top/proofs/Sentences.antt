@@ -5,14 +5,15 @@ use Rattle.std.proofs.Math.Seq.{drop-cons}
 use Rattle.std.specs.Prelude.{Result, Ok, Err}
 use Rattle.cic_terms.specs.Tree.{Tree, sort, prop}
 use Rattle.cic_rules.specs.Environment.{Environment}
-use Rattle.gal_parser.specs.Grammar.{Sentence, RawTerm, axiom_sentence}
+use Rattle.gal_parser.specs.Grammar.{Sentence, RawTerm, axiom_sentence, Reads, NotYetAt}
+use Rattle.cic_top.specs.CommandLine.{source_name}
 use Rattle.gal_parser.specs.Views.{raw_term, sentence_of, sentences_of}
 use Rattle.gal_parser.specs.declared.command.Command.{Command}
 use Rattle.gal_parser.specs.declared.command.Raw.{Raw}
 use Rattle.gal_parser.specs.declared.command.Raw.TheVariants.{Prop}
 use Rattle.cic_top.specs.Refusals as R
-use Rattle.cic_top.specs.Compilation.{StandsFor, prop_stands, Declares, id_of, Adds, adds_axiom, IsRefused, duplicate_name, not_accepted, Compiled, Runs, all_run, one_adds, one_is_refused, environment, refusal}
-use Rattle.cic_top.specs.Compiling.{StopsFor, DeclaresOrRefuses, AddsOrRefuses, RunsOrRefuses}
+use Rattle.cic_top.specs.Compilation.{StandsFor, prop_stands, Declares, id_of, Adds, adds_axiom, IsRefused, duplicate_name, not_accepted, Compiled, Runs, all_run, one_adds, one_is_refused, environment, refusal, Compiles, is_not_yet, is_read}
+use Rattle.cic_top.specs.Compiling.{StopsFor, DeclaresOrRefuses, AddsOrRefuses, RunsOrRefuses, CompilesTo}
 use Rattle.cic_top.specs.Views.{refusal_of}
 use Rattle.cic_top.specs.declared.compiling.Stop.{Stop}
 use Rattle.cic_top.specs.declared.compiling.Stop.TheVariants.{Refused, NoMemory}
@@ -77,3 +78,23 @@ pub rest_gives_all : (library : List ℕ) (first E : Environment) (commands : Li
     RestGives library first E commands i → Runs library first (sentences_of commands) (environment E)
 rest_gives_all library first E commands i all rest =
     rest (environment E) (subst (λ l. Runs library E (sentences_of l) (environment E)) (sym (nothing_behind commands i all)) all_run)
+
+-- A source that is read is compiled to what its sentences give.
+pub read_runs : (library source : List ℕ) (E : Environment) (commands given : List Command) (compiled : Compiled) →
+    Reads source (sentences_of commands) → given ≡ commands → E ≡ [] → Runs library E (sentences_of given) compiled → Compiles library source compiled
+read_runs library source E commands given compiled read same none runs =
+    is_read read (subst (λ l. Runs library [] (sentences_of l) compiled) same (subst (λ z. Runs library z (sentences_of given) compiled) none runs))
+
+pub read_refused : (library source : List ℕ) (E E' : Environment) (commands given : List Command) (stop : Stop) →
+    Reads source (sentences_of commands) → given ≡ commands → E ≡ [] → RunsOrRefuses library E (sentences_of given) (Err stop) E' →
+    CompilesTo library source (Err stop)
+read_refused library source E E' commands given (Refused r) read same none runs =
+    read_runs library source E commands given (refusal (refusal_of r)) read same none runs
+read_refused library source E E' commands given NoMemory read same none runs = tt
+
+-- A source that is not understood is refused.
+pub not_read : (library source : List ℕ) (place : ℕ) (stop : Stop) → NotYetAt source place →
+    StopsFor stop (R.not_yet (source_name library) place) → CompilesTo library source (Err stop)
+not_read library source place (Refused r) at e =
+    subst (λ reason. Compiles library source (refusal reason)) (sym e) (is_not_yet at)
+not_read library source place NoMemory at e = tt
