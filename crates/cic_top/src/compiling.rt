@@ -1,10 +1,14 @@
-ghost use Rattle.std.specs.Prelude.{◌≡◌, ◌++◌, codes, IfOk};
+ghost use Rattle.std.specs.Prelude.{◌≡◌, ◌++◌, ◌∷◌, [], codes, IfOk, OnOk};
+ghost use Rattle.cic_terms.specs.Tree.{sort, prop};
+ghost use Rattle.cic_env.specs.Declarations.{declaration, decl_id, item};
 ghost use Rattle.cic_env.specs.Environments.{items};
 ghost use Rattle.cic_terms.specs.Denotes.{tree};
-ghost use Rattle.gal_parser.specs.Views.{raw_term, sentence_of};
+ghost use Rattle.gal_parser.specs.Views.{raw_term, sentence_of, sentences_of};
 ghost use Rattle.cic_top.specs.CommandLine.{IsName, source_name};
-ghost use Rattle.cic_top.specs.Compilation.{StandsFor};
-ghost use Rattle.cic_top.specs.Compiling.{AddsOrRefuses, CompilesTo};
+ghost use Rattle.cic_kernel.specs.Language.{IsOfLanguage};
+ghost use Rattle.cic_top.specs.Refusals.{duplicate, not_yet};
+ghost use Rattle.cic_top.specs.Compilation.{StandsFor, Declares, id_of};
+ghost use Rattle.cic_top.specs.Compiling.{StopsFor, PassesOrRefuses, DeclaresOrRefuses, AddsOrRefuses, RunsOrRefuses, CompilesTo};
 
 use crate::answer::Refusal;
 use cic_env::{Decl, Env, PushFault, Verdict};
@@ -44,27 +48,81 @@ fn term_of(raw: &Raw) -> Term
     }
 }
 
-/// Runs one sentence of the library.
-fn run_sentence(alloc: Global, library: &Name, env: &mut Env, command: &Command) -> Result<(), Stop>
-    ensures { AddsOrRefuses library.now (items env.old) (sentence_of command.now) result (items env.new) }
+/// The id of a name of the library.
+fn id_of(library: &Name, name: &Name) -> Result<GlobalId, NoMemory>
+    ensures { IfOk result (λ id. id ≡ id_of library.now name.now) }
 {
-    let Command::Axiom { name, ty } = command;
-    let id = GlobalId { lib: library.copy()?, name: name.copy()? };
-    if env.declares(&id) {
-        return Err(Stop::Refused(Refusal::Duplicate { name: name.copy()? }));
+    let lib = library.copy()?;
+    match name.copy() {
+        Ok(name) => Ok(GlobalId { lib, name }),
+        Err(fault) => Err(fault),
     }
-    let decl = Decl::Axiom { id: id.copy()?, ty: term_of(ty) };
-    match check_decl(alloc, env, &decl, DEFAULT_BUDGET) {
-        Verdict::Done(_found) => match env.push(decl) {
-            Ok(()) => Ok(()),
-            Err(PushFault::Duplicate(_)) => Err(Stop::Refused(Refusal::Duplicate { name: name.copy()? })),
-            Err(PushFault::NoMemory(_)) => Err(Stop::NoMemory),
-        },
+}
+
+/// The refusal of a name that is declared already.
+fn duplicate(name: &Name) -> Stop
+    ensures { StopsFor result (duplicate name.now) }
+{
+    match name.copy() {
+        Ok(name) => Stop::Refused(Refusal::Duplicate { name }),
+        Err(_) => Stop::NoMemory,
+    }
+}
+
+/// Checks a declaration of the id, within the budget.
+fn judge(alloc: Global, env: &mut Env, decl: &Decl, id: GlobalId) -> Result<(), Stop>
+    requires language { IsOfLanguage (declaration decl.now) }
+    ensures verdict { PassesOrRefuses (items env.old) id (declaration decl.now) result }
+    ensures same { items env.new ≡ items env.old }
+{
+    match check_decl(alloc, env, decl, DEFAULT_BUDGET) {
+        Verdict::Done(_found) => Ok(()),
         Verdict::Refused(cause) => Err(Stop::Refused(Refusal::Ill { id, cause })),
         Verdict::Spent => Err(Stop::Refused(Refusal::Spent { id, budget: DEFAULT_BUDGET })),
         Verdict::Deep => Err(Stop::Refused(Refusal::Deep { id })),
         Verdict::NoMemory => Err(Stop::NoMemory),
     }
+}
+
+/// Adds a declaration whose id is new.
+fn add(env: &mut Env, decl: Decl) -> Result<(), NoMemory>
+    requires { ¬ Declares (items env.old) (decl_id decl) }
+    ensures { OnOk result (items env.new ≡ items env.old ++ item decl ∷ []) }
+{
+    match env.push(decl) {
+        Ok(()) => Ok(()),
+        Err(PushFault::Duplicate(_)) => unreachable!(),
+        Err(PushFault::NoMemory(_)) => Err(NoMemory),
+    }
+}
+
+/// Checks and adds an axiom whose id is new.
+fn declare(alloc: Global, env: &mut Env, id: GlobalId, ty: Term) -> Result<(), Stop>
+    requires new { ¬ Declares (items env.old) id }
+    requires language { tree ty ≡ sort prop }
+    ensures { DeclaresOrRefuses (items env.old) id (tree ty) result (items env.new) }
+{
+    let decl = Decl::Axiom { id: id.copy()?, ty };
+    match judge(alloc, env, &decl, id) {
+        Ok(()) => match add(env, decl) {
+            Ok(()) => Ok(()),
+            Err(_) => Err(Stop::NoMemory),
+        },
+        Err(stop) => Err(stop),
+    }
+}
+
+/// Runs one sentence of the library.
+#[tactic(auto, using(crate::proofs::Sentences::adds_or_refuses, crate::proofs::Sentences::duplicate_refuses, crate::proofs::Sentences::stands_for_prop))]
+fn run_sentence(alloc: Global, library: &Name, env: &mut Env, command: &Command) -> Result<(), Stop>
+    ensures { AddsOrRefuses library.now (items env.old) (sentence_of command.now) result (items env.new) }
+{
+    let Command::Axiom { name, ty } = command;
+    let id = id_of(library, name)?;
+    if env.declares(&id) {
+        return Err(duplicate(name));
+    }
+    declare(alloc, env, id, term_of(ty))
 }
 
 /// The name of the source of a library.
@@ -81,21 +139,39 @@ pub(crate) fn source_file(alloc: Global, library: &Name) -> Result<FileName, NoM
     }
 }
 
+/// The refusal of a source that is not understood from a place on.
+fn not_yet(alloc: Global, library: &Name, place: u32) -> Stop
+    ensures { StopsFor result (not_yet (source_name library.now) place) }
+{
+    match source_file(alloc, library) {
+        Ok(name) => Stop::Refused(Refusal::NotYet { name, place }),
+        Err(_) => Stop::NoMemory,
+    }
+}
+
+/// Runs the sentences in order.
+fn run_sentences(alloc: Global, library: &Name, env: &mut Env, commands: &[Command]) -> Result<(), Stop>
+    ensures { RunsOrRefuses library.now (items env.old) (sentences_of commands.now) result (items env.new) }
+{
+    for command in commands {
+        run_sentence(alloc, library, env, command)?;
+    }
+    Ok(())
+}
+
 /// Compiles the source of a library.
 pub(crate) fn compile(alloc: Global, library: &Name, source: &[u8]) -> Result<Env, Stop>
     ensures { CompilesTo library.now source.now result }
 {
-    let commands = match parse(alloc, source) {
-        Ok(commands) => commands,
-        Err(ParseFault::NotYet { place }) => {
-            let name = source_file(alloc, library)?;
-            return Err(Stop::Refused(Refusal::NotYet { name, place }));
+    match parse(alloc, source) {
+        Ok(commands) => {
+            let mut env = Env::new(alloc);
+            match run_sentences(alloc, library, &mut env, commands.as_slice()) {
+                Ok(()) => Ok(env),
+                Err(stop) => Err(stop),
+            }
         }
-        Err(ParseFault::NoMemory) => return Err(Stop::NoMemory),
-    };
-    let mut env = Env::new(alloc);
-    for command in commands.as_slice() {
-        run_sentence(alloc, library, &mut env, command)?;
+        Err(ParseFault::NotYet { place }) => Err(not_yet(alloc, library, place)),
+        Err(ParseFault::NoMemory) => Err(Stop::NoMemory),
     }
-    Ok(env)
 }
