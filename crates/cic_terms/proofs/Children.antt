@@ -1,8 +1,8 @@
 -- Lists of parts: how they join, and a loop that makes one.
-use Rattle.std.proofs.Common.{◌≡◌, ℕ, suc, ◌+◌, ◌≤◌, ◌<◌, max, List, [], ◌∷◌, length, get_or, drop, refl, sym, ap, ◌∙◌, arith, subst, add-one}
+use Rattle.std.proofs.Common.{◌≡◌, ◌≢◌, ℕ, suc, ◌+◌, ◌-◌, ◌≤◌, ◌<◌, max, List, [], ◌∷◌, length, get_or, drop, refl, sym, ap, ◌∙◌, arith, subst, add-one}
 use Rattle.std.proofs.Math.Seq.{drop-cons}
 use Rattle.std.proofs.lemmas.Grind.{common_steps}
-use Rattle.cic_terms.specs.Tree.{Tree, Children, no_child, child, Binders, over, join}
+use Rattle.cic_terms.specs.Tree.{Tree, node, Former, Children, no_child, child, Binders, over, join}
 use Rattle.cic_terms.specs.Sizes.{Fits, ChildrenFit, depth_tree, max_rel, depth_children, max_rel_children}
 use Rattle.cic_terms.specs.Lift.{lift_tree, lift_children, subst_tree, subst_children}
 
@@ -50,6 +50,10 @@ kid_fits room b t f = record { depth = omega (arith, f.depth); rels = omega (ari
 
 pub fits_kid : (room : ℕ) (b : Binders) (t : Tree) → ChildrenFit room (child b t no_child) → Fits room t
 fits_kid room b t f = record { depth = omega (arith, f.depth); rels = omega (arith, f.rels) }
+
+-- the second part of a node fits, one level further down
+pub second_fits : (room : ℕ) (f : Former) (b c : Binders) (x y : Tree) (ks : Children) → room ≢ 0 → Fits room (node f (child b x (child c y ks))) → Fits (room - 1) y
+second_fits room f b c x y ks h k = record { depth = omega (arith, k.depth); rels = omega (arith, k.rels) }
 
 -- what a loop has made, and what is left
 pub record ChildrenSoFar (room : ℕ) (made rest whole : Children) : Type 0 where

@@ -7,3 +7,4 @@ pub mod Most
 pub mod Mentioned
 pub mod Sameness
 pub mod Blocks
+pub mod Shaped

@@ -1,11 +1,13 @@
 -- A Rel at or above a place that is past the limit passes it wherever it is lifted.
-use Rattle.std.proofs.Common.{◌≡◌, ℕ, suc, ◌+◌, ◌-◌, ◌^◌, ◌≤◌, ◌<◌, ◌⊎◌, inl, inr, subst, Result, Ok, Err, min, max, ltb, refl, sym, ap, ◌∙◌, arith, add_assoc}
+use Rattle.std.proofs.Common.{◌≡◌, ℕ, suc, ◌+◌, ◌-◌, ◌^◌, ◌≤◌, ◌<◌, ◌⊎◌, inl, inr, subst, Option, Result, Ok, Err, min, max, ltb, refl, sym, ap, ◌∙◌, arith, add_assoc}
 use Rattle.std.proofs.lemmas.Grind.{common_steps}
 use Rattle.std.proofs.lemmas.Bool.Decides.{nat_tests}
 use Rattle.std.proofs.lemmas.Bool.{cases_lt}
 use Rattle.cic_terms.specs.Tree.{Tree, rel, node, Children, no_child, child, over}
 use Rattle.cic_terms.specs.Denotes.{tree}
-use Rattle.cic_terms.specs.Answer.{Makes}
+use Rattle.cic_terms.specs.Answer.{Changes}
+use Rattle.std.specs.declared.rc.Rc.{Rc}
+use Rattle.std.specs.declared.alloc.Global.{Global}
 use Rattle.cic_terms.specs.declared.term.Term.{Term}
 use Rattle.cic_terms.specs.declared.term.TermFault.{TermFault}
 use Rattle.cic_terms.specs.Lift.{lift_tree, lift_children}
@@ -49,13 +51,13 @@ same_under room from more by at t e h = go (cases_lt (2 ^ 32 - 1) (from + more))
     go (inl lt) = clamp at (from + more) by t (omega arith) (omega arith) small
 
 -- the answer at a number that stands still is that at the true one
-pub Makes-under : (room from more by at : ℕ) (t : Tree) (result : Result Term TermFault) → at ≡ min (from + more) (2 ^ 32 - 1) →
-    Makes room (lift_tree at by t) result → Makes room (lift_tree (from + more) by t) result
-Makes-under room from more by at t (Ok r) e m =
+pub Changes-under : (room from more by at : ℕ) (t : Tree) (result : Result (Option (Rc Term Global)) TermFault) → at ≡ min (from + more) (2 ^ 32 - 1) →
+    Changes room t (lift_tree at by t) result → Changes room t (lift_tree (from + more) by t) result
+Changes-under room from more by at t (Ok r) e m =
     let k = m.fits in
     let same : lift_tree at by t ≡ lift_tree (from + more) by t = same_under room from more by at t e (inl k) in
     record { ok = m.ok ∙ same; fits = subst (Fits room) same k; deep = tt }
-Makes-under room from more by at t (Err fault) e m = record {
+Changes-under room from more by at t (Err fault) e m = record {
   ok = tt;
   fits = tt;
   deep = λ d h. m.deep d (subst (Fits room) (sym (same_under room from more by at t e (inr h))) h);

@@ -1,5 +1,5 @@
 -- What a call that makes a term answers.
-use Rattle.std.specs.Prelude.{ℕ, List, Result, IfOk, IfErr, OnOk, ◌≡◌, ◌⊎◌}
+use Rattle.std.specs.Prelude.{ℕ, List, Option, None, Some, Result, IfOk, IfErr, OnOk, ◌≡◌, ◌⊎◌}
 use Rattle.cic_terms.specs.Tree.{Tree, Children, Shape}
 use Rattle.cic_terms.specs.Sizes.{Fits, ChildrenFit}
 use Rattle.cic_terms.specs.Mentions.{Mentions, ChildrenMention}
@@ -16,6 +16,17 @@ use Rattle.cic_terms.specs.declared.term.TermFault.TheVariants.{Deep}
 -- Ok gives exactly the tree, and Deep comes exactly where it passes the limits.
 pub record Makes (room : ℕ) (want : Tree) (result : Result Term TermFault) : Type 0 where
   pub ok : IfOk result (λ t. tree t ≡ want)
+  pub fits : OnOk result (Fits room want)
+  pub deep : IfErr result (λ fault. fault ≡ Deep → ¬ Fits room want)
+
+-- the tree after a change, which gives nothing where it changes nothing
+abbrev pub after : Tree → Option (Rc Term Global) → Tree
+after old None = old
+after old (Some r) = tree r.value
+
+-- the same of a change
+pub record Changes (room : ℕ) (old want : Tree) (result : Result (Option (Rc Term Global)) TermFault) : Type 0 where
+  pub ok : IfOk result (λ r. after old r ≡ want)
   pub fits : OnOk result (Fits room want)
   pub deep : IfErr result (λ fault. fault ≡ Deep → ¬ Fits room want)
 

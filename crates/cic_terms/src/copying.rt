@@ -6,7 +6,7 @@ use crate::name::NoMemory;
 use crate::term::Term;
 use std::rc::Rc;
 
-fn share<T: Drop>(part: &Rc<T>) -> Result<Rc<T>, NoMemory>
+pub(crate) fn share<T: Drop>(part: &Rc<T>) -> Result<Rc<T>, NoMemory>
     ensures { IfOk result (λ r. r.value ≡ part.now.value) }
 {
     match part.clone() {

@@ -1,19 +1,22 @@
+//! Lifting: a number is added to the free Rels of a term.
 ghost use Rattle.std.specs.Prelude.{◌≡◌, ◌+◌, ◌-◌, ◌^◌, ◌≤◌, ◌<◌, min, ◌∷◌, []};
 ghost use Rattle.cic_terms.specs.Denotes.{tree, branches, bodies, terms, shapes, shape, body_parts, tree_sort};
-ghost use Rattle.cic_terms.specs.Answer.{Makes, MakesShared, MakesChildren, MakesBody, MakesBodies};
-ghost use Rattle.cic_terms.specs.Tree.{rel, sort, const, ind, ctor};
+ghost use Rattle.cic_terms.specs.Answer.{Makes, MakesShared, MakesChildren, MakesBody, MakesBodies, Changes};
+ghost use Rattle.cic_terms.specs.Tree.{rel};
 ghost use Rattle.cic_terms.specs.Lift.{lift_tree, lift_children};
 
-use crate::level::Sort;
-use crate::name::GlobalId;
-use crate::term::{
-    Branch, Branches, FixBodies, FixBody, Term, TermFault, Terms, copy_id, copy_sort, keep, shared,
+use crate::sharing::{
+    make_app, make_case, make_fix, make_lam, make_let, make_prod, make_rel, part, taken,
 };
+use crate::term::{Branch, Branches, FixBodies, FixBody, Term, TermFault, Terms, keep};
 use std::alloc::Global;
 use std::rc::Rc;
 
 /// The greatest number of a Rel.
 pub(crate) const MOST: u32 = 1_048_576;
+
+/// The most levels that a term has.
+pub(crate) const ROOM: u32 = 4_000;
 
 /// `from`, under `more` binders. It stands still at the end of its type.
 fn under(from: u32, more: usize) -> u32
@@ -25,24 +28,30 @@ fn under(from: u32, more: usize) -> u32
     }
 }
 
-#[inline(never)]
-fn lift_rel(n: u32, from: u32, by: u32, room: u32) -> Result<Term, TermFault>
+fn lift_rel(
+    alloc: Global,
+    n: u32,
+    from: u32,
+    by: u32,
+    room: u32,
+) -> Result<Option<Rc<Term>>, TermFault>
     requires { 1 ≤ room }
-    ensures { Makes room (lift_tree from by (rel n)) result }
+    ensures { Changes room (rel n) (lift_tree from by (rel n)) result }
 {
+    if n > MOST {
+        return Err(TermFault::Deep);
+    }
     if n < from {
-        if n > MOST {
-            Err(TermFault::Deep)
-        } else {
-            Ok(Term::Rel(n))
-        }
-    } else if n > MOST || by > MOST - n {
-        Err(TermFault::Deep)
-    } else {
-        Ok(Term::Rel(n + by))
+        return Ok(None);
+    }
+    match by {
+        0 => Ok(None),
+        _ if by > MOST - n => Err(TermFault::Deep),
+        _ => Ok(Some(make_rel(alloc, n + by)?)),
     }
 }
 
+/// `lift_at` of `t` under `more` binders.
 #[cycle(lift)]
 #[inline(never)]
 fn lift_under(
@@ -52,60 +61,47 @@ fn lift_under(
     more: usize,
     by: u32,
     room: u32,
-) -> Result<Term, TermFault>
-    ensures { Makes room (lift_tree (from + more) by (tree t.now)) result }
+) -> Result<Option<Rc<Term>>, TermFault>
+    ensures { Changes room (tree t.now) (lift_tree (from + more) by (tree t.now)) result }
 {
     lift_at(alloc, t, under(from, more), by, room)
 }
 
-/// `lift_at` of `t` under `more` binders, behind an `Rc`.
+/// `lift_under`, for a term in a list.
 #[cycle(lift)]
 #[inline(never)]
-fn lift_shared(
+fn lift_term(
     alloc: Global,
     t: &Term,
     from: u32,
     more: usize,
     by: u32,
     room: u32,
+) -> Result<Term, TermFault>
+    ensures { Makes room (lift_tree (from + more) by (tree t.now)) result }
+{
+    let lifted = lift_under(alloc, t, from, more, by, room)?;
+    taken(t, lifted)
+}
+
+/// `lift_under`, for a part behind a pointer.
+#[cycle(lift)]
+#[inline(never)]
+fn lift_part(
+    alloc: Global,
+    t: &Rc<Term>,
+    from: u32,
+    more: usize,
+    by: u32,
+    room: u32,
 ) -> Result<Rc<Term>, TermFault>
-    ensures { MakesShared room (lift_tree (from + more) by (tree t.now)) result }
+    ensures { MakesShared room (lift_tree (from + more) by (tree t.now.value)) result }
 {
-    shared(alloc, lift_under(alloc, t, from, more, by, room)?)
+    let lifted = lift_under(alloc, t, from, more, by, room)?;
+    part(t, lifted)
 }
 
-#[inline(never)]
-pub(crate) fn leaf_sort(alloc: Global, s: &Sort, room: u32) -> Result<Term, TermFault>
-    requires { 1 ≤ room }
-    ensures { Makes room (sort (tree_sort s.now)) result }
-{
-    Ok(Term::Sort(copy_sort(s)?))
-}
-
-#[inline(never)]
-pub(crate) fn leaf_const(alloc: Global, id: &GlobalId, room: u32) -> Result<Term, TermFault>
-    requires { 1 ≤ room }
-    ensures { Makes room (const id.now) result }
-{
-    Ok(Term::Const(copy_id(id)?))
-}
-
-#[inline(never)]
-pub(crate) fn leaf_ind(alloc: Global, id: &GlobalId, room: u32) -> Result<Term, TermFault>
-    requires { 1 ≤ room }
-    ensures { Makes room (ind id.now) result }
-{
-    Ok(Term::Ind(copy_id(id)?))
-}
-
-#[inline(never)]
-pub(crate) fn leaf_ctor(alloc: Global, id: &GlobalId, room: u32) -> Result<Term, TermFault>
-    requires { 1 ≤ room }
-    ensures { Makes room (ctor id.now) result }
-{
-    Ok(Term::Ctor(copy_id(id)?))
-}
-
+/// Gives nothing where nothing changes.
 #[cycle(lift)]
 #[inline(never)]
 pub(crate) fn lift_at(
@@ -114,38 +110,35 @@ pub(crate) fn lift_at(
     from: u32,
     by: u32,
     room: u32,
-) -> Result<Term, TermFault>
-    ensures { Makes room (lift_tree from by (tree t.now)) result }
+) -> Result<Option<Rc<Term>>, TermFault>
+    ensures { Changes room (tree t.now) (lift_tree from by (tree t.now)) result }
 {
     if room == 0 {
         return Err(TermFault::Deep);
     }
     match t {
-        Term::Rel(n) => lift_rel(*n, from, by, room),
-        Term::Sort(s) => leaf_sort(alloc, s, room),
-        Term::Const(id) => leaf_const(alloc, id, room),
-        Term::Ind(id) => leaf_ind(alloc, id, room),
-        Term::Ctor(id) => leaf_ctor(alloc, id, room),
+        Term::Rel(n) => lift_rel(alloc, *n, from, by, room),
+        Term::Sort(_) | Term::Const(_) | Term::Ind(_) | Term::Ctor(_) => Ok(None),
         Term::Prod(a, b) => {
-            let a = lift_shared(alloc, a, from, 0, by, room - 1)?;
-            let b = lift_shared(alloc, b, from, 1, by, room - 1)?;
-            Ok(Term::Prod(a, b))
+            let new_a = lift_under(alloc, a, from, 0, by, room - 1)?;
+            let new_b = lift_under(alloc, b, from, 1, by, room - 1)?;
+            make_prod(alloc, a, b, new_a, new_b)
         }
         Term::Lam(a, b) => {
-            let a = lift_shared(alloc, a, from, 0, by, room - 1)?;
-            let b = lift_shared(alloc, b, from, 1, by, room - 1)?;
-            Ok(Term::Lam(a, b))
+            let new_a = lift_under(alloc, a, from, 0, by, room - 1)?;
+            let new_b = lift_under(alloc, b, from, 1, by, room - 1)?;
+            make_lam(alloc, a, b, new_a, new_b)
         }
         Term::Let { body, ty, rest } => {
-            let body = lift_shared(alloc, body, from, 0, by, room - 1)?;
-            let ty = lift_shared(alloc, ty, from, 0, by, room - 1)?;
-            let rest = lift_shared(alloc, rest, from, 1, by, room - 1)?;
-            Ok(Term::Let { body, ty, rest })
+            let new_body = lift_under(alloc, body, from, 0, by, room - 1)?;
+            let new_ty = lift_under(alloc, ty, from, 0, by, room - 1)?;
+            let new_rest = lift_under(alloc, rest, from, 1, by, room - 1)?;
+            make_let(alloc, body, ty, rest, new_body, new_ty, new_rest)
         }
         Term::App(f, x) => {
-            let f = lift_shared(alloc, f, from, 0, by, room - 1)?;
-            let x = lift_shared(alloc, x, from, 0, by, room - 1)?;
-            Ok(Term::App(f, x))
+            let new_f = lift_under(alloc, f, from, 0, by, room - 1)?;
+            let new_x = lift_under(alloc, x, from, 0, by, room - 1)?;
+            make_app(alloc, f, x, new_f, new_x)
         }
         Term::Case {
             arity,
@@ -154,26 +147,14 @@ pub(crate) fn lift_at(
             scrutinee,
             branches,
         } => {
-            let motive = lift_shared(alloc, motive, from, *arity as usize + 1, by, room - 1)?;
-            let scrutinee = lift_shared(alloc, scrutinee, from, 0, by, room - 1)?;
-            let branches = shared(
-                alloc,
-                lift_all_branches(alloc, branches, from, by, room - 1)?,
-            )?;
-            Ok(Term::Case {
-                arity: *arity,
-                ind: copy_id(ind)?,
-                motive,
-                scrutinee,
-                branches,
-            })
+            let motive = lift_part(alloc, motive, from, *arity as usize + 1, by, room - 1)?;
+            let scrutinee = lift_part(alloc, scrutinee, from, 0, by, room - 1)?;
+            let branches = lift_all_branches(alloc, branches, from, by, room - 1)?;
+            Ok(Some(make_case(alloc, *arity, ind, motive, scrutinee, branches)?))
         }
         Term::Fix { which, bodies } => {
-            let bodies = shared(alloc, lift_all_bodies(alloc, bodies, from, by, room - 1)?)?;
-            Ok(Term::Fix {
-                which: *which,
-                bodies,
-            })
+            let bodies = lift_all_bodies(alloc, bodies, from, by, room - 1)?;
+            Ok(Some(make_fix(alloc, *which, bodies)?))
         }
     }
 }
@@ -190,7 +171,7 @@ fn lift_all_branches(
 {
     let mut items = Vec::new(alloc);
     for branch in &all.items {
-        let body = lift_under(alloc, &branch.body, from, branch.binders as usize, by, room)?;
+        let body = lift_term(alloc, &branch.body, from, branch.binders as usize, by, room)?;
         keep(
             &mut items,
             Branch {
@@ -214,7 +195,7 @@ fn lift_all_terms(
 {
     let mut items = Vec::new(alloc);
     for (above, term) in all.items.iter().enumerate() {
-        let lifted = lift_under(alloc, term, from, above, by, room)?;
+        let lifted = lift_term(alloc, term, from, above, by, room)?;
         keep(&mut items, lifted)?;
     }
     Ok(Terms { items })
@@ -234,8 +215,8 @@ fn lift_body(
 {
     let above = one.domains.items.len();
     let domains = lift_all_terms(alloc, &one.domains, from, by, room)?;
-    let codomain = lift_under(alloc, &one.codomain, from, above, by, room)?;
-    let body = lift_under(alloc, &one.body, from, count + above, by, room)?;
+    let codomain = lift_term(alloc, &one.codomain, from, above, by, room)?;
+    let body = lift_term(alloc, &one.body, from, count + above, by, room)?;
     Ok(FixBody {
         k: one.k,
         domains,
@@ -263,12 +244,18 @@ fn lift_all_bodies(
     Ok(FixBodies { items })
 }
 
-/// The most levels that a term has.
-pub(crate) const ROOM: u32 = 4_000;
-
-/// Adds `by` to each free Rel at or above `from`.
+/// Adds `by` to each free Rel at or above `from`. A part that stays as it is, is shared.
 pub fn lift(alloc: Global, t: &Term, from: u32, by: u32) -> Result<Term, TermFault>
     ensures { Makes 4000 (lift_tree from by (tree t.now)) result }
 {
-    lift_at(alloc, t, from, by, ROOM)
+    let lifted = lift_at(alloc, t, from, by, ROOM)?;
+    taken(t, lifted)
+}
+
+/// `lift` of a shared term: where nothing changes, the term itself is shared.
+pub fn lift_shared(alloc: Global, t: &Rc<Term>, from: u32, by: u32) -> Result<Rc<Term>, TermFault>
+    ensures { MakesShared 4000 (lift_tree from by (tree t.now.value)) result }
+{
+    let lifted = lift_at(alloc, t, from, by, ROOM)?;
+    part(t, lifted)
 }

@@ -1,4 +1,4 @@
-use Rattle.std.proofs.Common.{◌≡◌, ◌+◌, ◌≤◌, List, [], ◌∷◌, ◌++◌, length, drop, ap, sym, ◌∙◌, arith, subst, length-append}
+use Rattle.std.proofs.Common.{◌≡◌, ◌+◌, ◌≤◌, List, [], ◌∷◌, ◌++◌, length, drop, ap, sym, ◌∙◌, arith, subst, length-append, add-zero}
 use Rattle.std.proofs.lemmas.Result.{err_from_is_err_and}
 use Rattle.cic_terms.specs.Denotes.{tree, branch_list, body_list, term_list, body_parts, domain_count}
 use Rattle.cic_terms.specs.Tree.{join}
@@ -8,8 +8,8 @@ use Rattle.cic_terms.specs.declared.term.Branch.{Branch}
 use Rattle.cic_terms.specs.declared.term.FixBody.{FixBody}
 use Rattle.cic_terms.specs.declared.term.FixBodies.{out-FixBodies}
 use Rattle.cic_terms.proofs.Rows.{branches-roll, bodies-roll, shapes-roll, branches_are, bodies_are, shapes_are, branch_more, term_more, body_more, shapes_more, shapes_end, shapes_count, terms_count_lift, lift_parts, parts_fit, fits_parts, parts_are}
-use Rattle.cic_terms.proofs.Limits.{no_room, Makes-under}
-use Rattle.cic_terms.proofs.Children.{drop_at, drop_whole, children_begin, children_more, children_refused, children_end, kid_fits, fits_kid, lift_join}
+use Rattle.cic_terms.proofs.Limits.{no_room, Changes-under}
+use Rattle.cic_terms.proofs.Children.{drop_at, drop_whole, children_begin, children_more, children_refused, children_end, kid_fits, fits_kid, second_fits, lift_join}
 use Rattle.cic_terms.proofs.lifting.+lift.Goals as goal
 
 pub lift_all_bodies-loop-one-init : goal.lift_all_bodies-loop-one-init
@@ -137,4 +137,22 @@ lift_body-returns t c =
     })
 
 pub lift_under-returns : goal.lift_under-returns
-lift_under-returns t c = Makes-under _ _ _ _ _ _ _ c.under.ensures c.lift_at.ensures
+lift_under-returns t c = Changes-under _ _ _ _ _ _ _ c.under.ensures c.lift_at.ensures
+
+pub lift_at-returns-in_err-new_b-in-Prod : goal.lift_at-returns-in_err-new_b-in-Prod
+lift_at-returns-in_err-new_b-in-Prod t c =
+    let p = err_from_is_err_and c.from_residual-in_err-new_b-in-Prod.result c.from_residual-in_err-new_b-in-Prod.ensures.1 in
+    let never = rw c.deref-in-Prod.ensures at (c.in_err-new_b-in-Prod.ensures.deep) in
+    rw (p.1, p.2, c.in-Prod.is) (record { ok = tt; fits = tt; deep = λ d h. never d (second_fits _ _ _ _ _ _ _ c.if-room-eq0.false h) })
+
+pub lift_at-returns-in_err-new_b-in-Lam : goal.lift_at-returns-in_err-new_b-in-Lam
+lift_at-returns-in_err-new_b-in-Lam t c =
+    let p = err_from_is_err_and c.from_residual-in_err-new_b-in-Lam.result c.from_residual-in_err-new_b-in-Lam.ensures.1 in
+    let never = rw c.deref-in-Lam-2.ensures at (c.in_err-new_b-in-Lam.ensures.deep) in
+    rw (p.1, p.2, c.in-Lam.is) (record { ok = tt; fits = tt; deep = λ d h. never d (second_fits _ _ _ _ _ _ _ c.if-room-eq0.false h) })
+
+pub lift_at-returns-in_err-new_ty-in-Let : goal.lift_at-returns-in_err-new_ty-in-Let
+lift_at-returns-in_err-new_ty-in-Let t c =
+    let p = err_from_is_err_and c.from_residual-in_err-new_ty-in-Let.result c.from_residual-in_err-new_ty-in-Let.ensures.1 in
+    let never = rw (c.deref-in-Let-2.ensures, add-zero) at (c.in_err-new_ty-in-Let.ensures.deep) in
+    rw (p.1, p.2, c.in-Let.is) (record { ok = tt; fits = tt; deep = λ d h. never d (second_fits _ _ _ _ _ _ _ c.if-room-eq0.false h) })

@@ -9,28 +9,28 @@ use Rattle.cic_terms.specs.declared.term.FixBody.{FixBody}
 use Rattle.cic_terms.specs.declared.term.FixBodies.{out-FixBodies}
 use Rattle.cic_terms.proofs.Rows.{branches-roll, bodies-roll, shapes-roll, branches_are, bodies_are, shapes_are, branch_more, term_more, body_more, shapes_more, shapes_end, shapes_count, terms_count_subst, subst_parts, parts_fit, fits_parts, parts_are}
 use Rattle.cic_terms.proofs.Limits.{no_room}
-use Rattle.cic_terms.proofs.Children.{drop_at, drop_whole, children_begin, children_more, children_refused, children_end, kid_fits, fits_kid, subst_join}
+use Rattle.cic_terms.proofs.Children.{drop_at, drop_whole, children_begin, children_more, children_refused, children_end, kid_fits, fits_kid, second_fits, subst_join}
 use Rattle.cic_terms.proofs.substituting.+subst.Goals as goal
 
 pub subst_all_bodies-loop-one-init : goal.subst_all_bodies-loop-one-init
 subst_all_bodies-loop-one-init t c =
     let n : c.len-count.result ≡ length (out-FixBodies c.args.all.now).items.items = c.len-count.ensures ∙ (out-FixBodies c.args.all.now).items.ok.0 in (
       rw c.new-items.ensures.items (shapes_are _ _ c.deref-one-items.ensures.value),
-      children_begin _ _ _ _ (ap (body_list c.len-count.result) c.new-items.ensures.items) (ap (subst_children c.args.at (tree c.args.with.now)) (bodies_are _ _ _ c.deref-one-items.ensures.value n)),
+      children_begin _ _ _ _ (ap (body_list c.len-count.result) c.new-items.ensures.items) (ap (subst_children c.args.at (tree c.args.with.now.value)) (bodies_are _ _ _ c.deref-one-items.ensures.value n)),
     )
 
 pub subst_all_bodies-returns-in_err-replaced : goal.subst_all_bodies-returns-in_err-replaced
 subst_all_bodies-returns-in_err-replaced t c =
     let p = err_from_is_err_and c.from_residual.result c.from_residual.ensures.1 in
-    let now = ap (λ (l : List FixBody). subst_children c.args.at (tree c.args.with.now) (body_list c.len-count.result l)) (drop_at c.deref-one-items.result.now c.loop-one.one-index c.one-item.result c.loop-one-test.true c.one-item.is)
-    ∙ subst_join c.args.at (tree c.args.with.now) (body_parts c.len-count.result c.one-item.result) (body_list c.len-count.result (drop (c.loop-one.one-index + 1) c.deref-one-items.result.now)) in
+    let now = ap (λ (l : List FixBody). subst_children c.args.at (tree c.args.with.now.value) (body_list c.len-count.result l)) (drop_at c.deref-one-items.result.now c.loop-one.one-index c.one-item.result c.loop-one-test.true c.one-item.is)
+    ∙ subst_join c.args.at (tree c.args.with.now.value) (body_parts c.len-count.result c.one-item.result) (body_list c.len-count.result (drop (c.loop-one.one-index + 1) c.deref-one-items.result.now)) in
     rw (p.1, p.2) (record { shapes = tt; children = record { ok = tt; fits = tt; deep = λ d. children_refused _ _ _ _ _ _ c.loop-one.invariant.1 now (c.in_err-replaced.ensures.children.deep d) } })
 
 pub subst_all_bodies-loop-one-preserved : goal.subst_all_bodies-loop-one-preserved
 subst_all_bodies-loop-one-preserved t c =
     let at = drop_at c.deref-one-items.result.now c.loop-one.one-index c.one-item.result c.loop-one-test.true c.one-item.is in
-    let now = ap (λ (l : List FixBody). subst_children c.args.at (tree c.args.with.now) (body_list c.len-count.result l)) at
-    ∙ subst_join c.args.at (tree c.args.with.now) (body_parts c.len-count.result c.one-item.result) (body_list c.len-count.result (drop (c.loop-one.one-index + 1) c.deref-one-items.result.now)) in
+    let now = ap (λ (l : List FixBody). subst_children c.args.at (tree c.args.with.now.value) (body_list c.len-count.result l)) at
+    ∙ subst_join c.args.at (tree c.args.with.now.value) (body_parts c.len-count.result c.one-item.result) (body_list c.len-count.result (drop (c.loop-one.one-index + 1) c.deref-one-items.result.now)) in
     let made = ap (body_list c.len-count.result) c.in_ok-keep.ensures.ok ∙ body_more c.len-count.result c.loop-one.items.items c.in_ok-replaced.replaced
     ∙ ap (join (body_list c.len-count.result c.loop-one.items.items)) c.in_ok-replaced.ensures.children.ok in (
       shapes_more _ _ _ _ _ _ _ c.loop-one.invariant.0 at c.in_ok-keep.ensures.ok c.in_ok-replaced.ensures.shape,
@@ -51,17 +51,17 @@ subst_all_bodies-returns t c =
 
 pub subst_all_branches-loop-branch-init : goal.subst_all_branches-loop-branch-init
 subst_all_branches-loop-branch-init t c =
-    children_begin _ _ _ _ (ap branch_list c.new-items.ensures.items) (ap (subst_children c.args.at (tree c.args.with.now)) (branches_are _ _ c.deref-branch-items.ensures.value))
+    children_begin _ _ _ _ (ap branch_list c.new-items.ensures.items) (ap (subst_children c.args.at (tree c.args.with.now.value)) (branches_are _ _ c.deref-branch-items.ensures.value))
 
 pub subst_all_branches-returns-in_err-body : goal.subst_all_branches-returns-in_err-body
 subst_all_branches-returns-in_err-body t c =
     let p = err_from_is_err_and c.from_residual.result c.from_residual.ensures.1 in
-    let now = ap (λ (l : List Branch). subst_children c.args.at (tree c.args.with.now) (branch_list l)) (drop_at c.deref-branch-items.result.now c.loop-branch.branch-index c.branch-item.result c.loop-branch-test.true c.branch-item.is) in
+    let now = ap (λ (l : List Branch). subst_children c.args.at (tree c.args.with.now.value) (branch_list l)) (drop_at c.deref-branch-items.result.now c.loop-branch.branch-index c.branch-item.result c.loop-branch-test.true c.branch-item.is) in
     rw (p.1, p.2) (record { ok = tt; fits = tt; deep = λ d. children_refused _ _ _ _ _ _ c.loop-branch.invariant now (λ h. c.in_err-body.ensures.deep d (fits_kid _ _ _ h)) })
 
 pub subst_all_branches-loop-branch-preserved : goal.subst_all_branches-loop-branch-preserved
 subst_all_branches-loop-branch-preserved t c =
-    let now = ap (λ (l : List Branch). subst_children c.args.at (tree c.args.with.now) (branch_list l)) (drop_at c.deref-branch-items.result.now c.loop-branch.branch-index c.branch-item.result c.loop-branch-test.true c.branch-item.is) in
+    let now = ap (λ (l : List Branch). subst_children c.args.at (tree c.args.with.now.value) (branch_list l)) (drop_at c.deref-branch-items.result.now c.loop-branch.branch-index c.branch-item.result c.loop-branch-test.true c.branch-item.is) in
     let b : Branch = record { binders = c.branch-item.result.binders; body = c.in_ok-body.body } in
     let made = ap branch_list c.in_ok-keep.ensures.ok ∙ branch_more c.loop-branch.items.items b in
     children_more _ _ _ _ _ _ _ c.loop-branch.invariant (cc (now, c.in_ok-body.ensures.ok)) made (rw c.in_ok-body.ensures.ok (kid_fits _ _ _ c.in_ok-body.ensures.fits))
@@ -75,18 +75,18 @@ subst_all_branches-returns t c =
 pub subst_all_terms-loop-above-init : goal.subst_all_terms-loop-above-init
 subst_all_terms-loop-above-init t c = (
   ap length c.new-items.ensures.items,
-  children_begin _ _ _ _ (ap (term_list 0) c.new-items.ensures.items) (ap (λ (l : List Term). subst_children c.args.at (tree c.args.with.now) (term_list 0 l)) c.deref-term-items.ensures.value),
+  children_begin _ _ _ _ (ap (term_list 0) c.new-items.ensures.items) (ap (λ (l : List Term). subst_children c.args.at (tree c.args.with.now.value) (term_list 0 l)) c.deref-term-items.ensures.value),
 )
 
 pub subst_all_terms-returns-in_err-replaced : goal.subst_all_terms-returns-in_err-replaced
 subst_all_terms-returns-in_err-replaced t c =
     let p = err_from_is_err_and c.from_residual.result c.from_residual.ensures.1 in
-    let now = ap (λ (l : List Term). subst_children c.args.at (tree c.args.with.now) (term_list c.loop-above.above l)) (drop_at c.deref-term-items.result.now c.loop-above.above c.term-item.result c.loop-above-test.true c.term-item.is) in
+    let now = ap (λ (l : List Term). subst_children c.args.at (tree c.args.with.now.value) (term_list c.loop-above.above l)) (drop_at c.deref-term-items.result.now c.loop-above.above c.term-item.result c.loop-above-test.true c.term-item.is) in
     rw (p.1, p.2) (record { ok = tt; fits = tt; deep = λ d. children_refused _ _ _ _ _ _ c.loop-above.invariant.1 now (λ h. c.in_err-replaced.ensures.deep d (fits_kid _ _ _ h)) })
 
 pub subst_all_terms-loop-above-preserved : goal.subst_all_terms-loop-above-preserved
 subst_all_terms-loop-above-preserved t c =
-    let now = ap (λ (l : List Term). subst_children c.args.at (tree c.args.with.now) (term_list c.loop-above.above l)) (drop_at c.deref-term-items.result.now c.loop-above.above c.term-item.result c.loop-above-test.true c.term-item.is) in
+    let now = ap (λ (l : List Term). subst_children c.args.at (tree c.args.with.now.value) (term_list c.loop-above.above l)) (drop_at c.deref-term-items.result.now c.loop-above.above c.term-item.result c.loop-above-test.true c.term-item.is) in
     let made = ap (term_list 0) c.in_ok-keep.ensures.ok ∙ term_more 0 c.loop-above.above c.loop-above.items.items c.in_ok-replaced.replaced (omega (arith, c.loop-above.invariant.0)) in (
       rw c.in_ok-keep.ensures.ok (rw length-append (ap (λ n. n + 1) c.loop-above.invariant.0)),
       children_more _ _ _ _ _ _ _ c.loop-above.invariant.1 (cc (now, c.in_ok-replaced.ensures.ok)) made (rw c.in_ok-replaced.ensures.ok (kid_fits _ _ _ c.in_ok-replaced.ensures.fits)),
@@ -126,7 +126,7 @@ subst_body-returns t c =
     let n : c.len-above.result ≡ domain_count c.args.one.now = c.len-above.ensures ∙ c.args.one.now.domains.items.ok.0 in
     let codomain = rw n at (c.in_ok-codomain.ensures) in
     let body = rw n at (c.in_ok-body.ensures) in
-    let m = terms_count_subst c.args.at (tree c.args.with.now) c.in_ok-domains.domains c.args.one.now.domains c.in_ok-domains.ensures.ok in
+    let m = terms_count_subst c.args.at (tree c.args.with.now.value) c.in_ok-domains.domains c.args.one.now.domains c.in_ok-domains.ensures.ok in
     rw subst_parts (record {
       shape = ap (λ m. record { k = c.args.one.now.k; domains = m }) m;
       children = record {
@@ -135,3 +135,21 @@ subst_body-returns t c =
         deep = tt;
       };
     })
+
+pub subst_at-returns-in_err-new_b-in-Prod : goal.subst_at-returns-in_err-new_b-in-Prod
+subst_at-returns-in_err-new_b-in-Prod t c =
+    let p = err_from_is_err_and c.from_residual-in_err-new_b-in-Prod.result c.from_residual-in_err-new_b-in-Prod.ensures.1 in
+    let never = rw c.deref-in-Prod.ensures at (c.in_err-new_b-in-Prod.ensures.deep) in
+    rw (p.1, p.2, c.in-Prod.is) (record { ok = tt; fits = tt; deep = λ d h. never d (second_fits _ _ _ _ _ _ _ c.if-room-eq0.false h) })
+
+pub subst_at-returns-in_err-new_b-in-Lam : goal.subst_at-returns-in_err-new_b-in-Lam
+subst_at-returns-in_err-new_b-in-Lam t c =
+    let p = err_from_is_err_and c.from_residual-in_err-new_b-in-Lam.result c.from_residual-in_err-new_b-in-Lam.ensures.1 in
+    let never = rw c.deref-in-Lam-2.ensures at (c.in_err-new_b-in-Lam.ensures.deep) in
+    rw (p.1, p.2, c.in-Lam.is) (record { ok = tt; fits = tt; deep = λ d h. never d (second_fits _ _ _ _ _ _ _ c.if-room-eq0.false h) })
+
+pub subst_at-returns-in_err-new_ty-in-Let : goal.subst_at-returns-in_err-new_ty-in-Let
+subst_at-returns-in_err-new_ty-in-Let t c =
+    let p = err_from_is_err_and c.from_residual-in_err-new_ty-in-Let.result c.from_residual-in_err-new_ty-in-Let.ensures.1 in
+    let never = rw c.deref-in-Let-2.ensures at (c.in_err-new_ty-in-Let.ensures.deep) in
+    rw (p.1, p.2, c.in-Let.is) (record { ok = tt; fits = tt; deep = λ d h. never d (second_fits _ _ _ _ _ _ _ c.if-room-eq0.false h) })

@@ -1,0 +1,161 @@
+//! Terms made of parts that a change gave anew or left as they are.
+ghost use Rattle.std.specs.Prelude.{◌≡◌, IfOk, OnErr, Err};
+ghost use Rattle.cic_terms.specs.Answer.{after};
+ghost use Rattle.cic_terms.specs.Denotes.{tree, branches, bodies, shapes};
+ghost use Rattle.cic_terms.specs.Tree.{rel, prod, lam, let_in, app, case, fix};
+
+use crate::copying::{copy, share};
+use crate::name::{GlobalId, NoMemory};
+use crate::term::{Branches, FixBodies, Term, TermFault, copy_id, shared};
+use std::alloc::Global;
+use std::rc::Rc;
+
+/// The new part, or the old one where there is none.
+pub(crate) fn part(old: &Rc<Term>, new: Option<Rc<Term>>) -> Result<Rc<Term>, TermFault>
+    ensures ok { IfOk result (λ r. tree r.value ≡ after (tree old.now.value) new) }
+    ensures err { OnErr result (result ≡ Err TermFault.NoMemory) }
+{
+    match new {
+        Some(new) => Ok(new),
+        None => match share(old) {
+            Ok(old) => Ok(old),
+            Err(NoMemory) => Err(TermFault::NoMemory),
+        },
+    }
+}
+
+/// The term itself in place of its pointer.
+#[inline(never)]
+pub(crate) fn taken(old: &Term, new: Option<Rc<Term>>) -> Result<Term, TermFault>
+    ensures ok { IfOk result (λ r. tree r ≡ after (tree old.now) new) }
+    ensures err { OnErr result (result ≡ Err TermFault.NoMemory) }
+{
+    let copied = match &new {
+        Some(new) => copy(new),
+        None => copy(old),
+    };
+    match copied {
+        Ok(copied) => Ok(copied),
+        Err(NoMemory) => Err(TermFault::NoMemory),
+    }
+}
+
+#[inline(never)]
+pub(crate) fn make_rel(alloc: Global, n: u32) -> Result<Rc<Term>, TermFault>
+    ensures ok { IfOk result (λ r. tree r.value ≡ rel n) }
+    ensures err { OnErr result (result ≡ Err TermFault.NoMemory) }
+{
+    shared(alloc, Term::Rel(n))
+}
+
+#[inline(never)]
+pub(crate) fn make_prod(
+    alloc: Global,
+    a: &Rc<Term>,
+    b: &Rc<Term>,
+    new_a: Option<Rc<Term>>,
+    new_b: Option<Rc<Term>>,
+) -> Result<Option<Rc<Term>>, TermFault>
+    ensures ok { IfOk result (λ r. after (prod (tree a.now.value) (tree b.now.value)) r ≡ prod (after (tree a.now.value) new_a) (after (tree b.now.value) new_b)) }
+    ensures err { OnErr result (result ≡ Err TermFault.NoMemory) }
+{
+    if new_a.is_none() && new_b.is_none() {
+        return Ok(None);
+    }
+    Ok(Some(shared(alloc, Term::Prod(part(a, new_a)?, part(b, new_b)?))?))
+}
+
+#[inline(never)]
+pub(crate) fn make_lam(
+    alloc: Global,
+    a: &Rc<Term>,
+    b: &Rc<Term>,
+    new_a: Option<Rc<Term>>,
+    new_b: Option<Rc<Term>>,
+) -> Result<Option<Rc<Term>>, TermFault>
+    ensures ok { IfOk result (λ r. after (lam (tree a.now.value) (tree b.now.value)) r ≡ lam (after (tree a.now.value) new_a) (after (tree b.now.value) new_b)) }
+    ensures err { OnErr result (result ≡ Err TermFault.NoMemory) }
+{
+    if new_a.is_none() && new_b.is_none() {
+        return Ok(None);
+    }
+    Ok(Some(shared(alloc, Term::Lam(part(a, new_a)?, part(b, new_b)?))?))
+}
+
+#[inline(never)]
+pub(crate) fn make_app(
+    alloc: Global,
+    f: &Rc<Term>,
+    x: &Rc<Term>,
+    new_f: Option<Rc<Term>>,
+    new_x: Option<Rc<Term>>,
+) -> Result<Option<Rc<Term>>, TermFault>
+    ensures ok { IfOk result (λ r. after (app (tree f.now.value) (tree x.now.value)) r ≡ app (after (tree f.now.value) new_f) (after (tree x.now.value) new_x)) }
+    ensures err { OnErr result (result ≡ Err TermFault.NoMemory) }
+{
+    if new_f.is_none() && new_x.is_none() {
+        return Ok(None);
+    }
+    Ok(Some(shared(alloc, Term::App(part(f, new_f)?, part(x, new_x)?))?))
+}
+
+#[inline(never)]
+pub(crate) fn make_let(
+    alloc: Global,
+    body: &Rc<Term>,
+    ty: &Rc<Term>,
+    rest: &Rc<Term>,
+    new_body: Option<Rc<Term>>,
+    new_ty: Option<Rc<Term>>,
+    new_rest: Option<Rc<Term>>,
+) -> Result<Option<Rc<Term>>, TermFault>
+    ensures ok { IfOk result (λ r. after (let_in (tree body.now.value) (tree ty.now.value) (tree rest.now.value)) r ≡ let_in (after (tree body.now.value) new_body) (after (tree ty.now.value) new_ty) (after (tree rest.now.value) new_rest)) }
+    ensures err { OnErr result (result ≡ Err TermFault.NoMemory) }
+{
+    if new_body.is_none() && new_ty.is_none() && new_rest.is_none() {
+        return Ok(None);
+    }
+    Ok(Some(shared(
+        alloc,
+        Term::Let {
+            body: part(body, new_body)?,
+            ty: part(ty, new_ty)?,
+            rest: part(rest, new_rest)?,
+        },
+    )?))
+}
+
+#[inline(never)]
+pub(crate) fn make_case(
+    alloc: Global,
+    arity: u32,
+    ind: &GlobalId,
+    motive: Rc<Term>,
+    scrutinee: Rc<Term>,
+    all: Branches,
+) -> Result<Rc<Term>, TermFault>
+    ensures ok { IfOk result (λ r. tree r.value ≡ case ind.now arity (tree motive.value) (tree scrutinee.value) (branches all)) }
+    ensures err { OnErr result (result ≡ Err TermFault.NoMemory) }
+{
+    let ind = copy_id(ind)?;
+    let branches = shared(alloc, all)?;
+    shared(
+        alloc,
+        Term::Case {
+            arity,
+            ind,
+            motive,
+            scrutinee,
+            branches,
+        },
+    )
+}
+
+#[inline(never)]
+pub(crate) fn make_fix(alloc: Global, which: u32, all: FixBodies) -> Result<Rc<Term>, TermFault>
+    ensures ok { IfOk result (λ r. tree r.value ≡ fix which (shapes all) (bodies all)) }
+    ensures err { OnErr result (result ≡ Err TermFault.NoMemory) }
+{
+    let bodies = shared(alloc, all)?;
+    shared(alloc, Term::Fix { which, bodies })
+}
