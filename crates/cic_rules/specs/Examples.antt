@@ -2,9 +2,10 @@
 use Rattle.std.specs.Prelude.{ℕ, Bool, true, false, Some, List, [], ◌∷◌, codes}
 use Rattle.cic_terms.specs.Tree.{prop, set, typ, many, Tree, rel, no_child, child, sort, prod, lam, app, const, ind, ctor, case}
 use Rattle.cic_terms.specs.declared.name.GlobalId.{GlobalId}
-use Rattle.cic_terms.specs.declared.level.Part.TheVariants.{Visible}
+use Rattle.cic_terms.specs.declared.level.Part.TheVariants.{Declared, Visible}
 use Rattle.cic_terms.specs.declared.level.Level.{Level}
 use Rattle.cic_terms.specs.declared.level.Level.TheVariants.{Named}
+use Rattle.cic_rules.specs.Constraints.{Constraint}
 use Rattle.cic_rules.specs.Environment.{Environment, Declaration, axiom_of, transparent, opaque, inductive, Block, TypeDeclaration, ConstructorDeclaration, declared}
 use Rattle.cic_rules.specs.Telescopes.{apply, Function, fixpoint}
 use Rattle.cic_rules.specs.Outcome.{refused, Cause}
@@ -285,3 +286,33 @@ zero_function = record {
 
 abbrev pub with_N : Environment
 with_N = environment (inductive nat_block ∷ inductive eq_block ∷ definition_N ∷ [])
+
+-- Universes u v. Axiom F : Type@{v} -> Prop. Theorem a : Prop. Proof F Type@{u}.
+abbrev pub level : List ℕ → Level
+level name = Named (record { lib = codes "A"; owner = name; part = Declared; number = 0 })
+
+abbrev pub universe : List ℕ → Tree
+universe name = sort (typ (record { level = level name; plus = false } ∷ []))
+
+abbrev pub axiom_F : Declaration
+axiom_F = axiom_of (id_of (codes "F")) (prod (universe (codes "v")) (sort prop))
+
+abbrev pub theorem_a : Declaration
+theorem_a = opaque (id_of (codes "a")) (sort prop) (Some (app (const (id_of (codes "F"))) (universe (codes "u"))))
+
+-- Definition x : Type@{u} := Type@{u}.
+abbrev pub definition_x : Declaration
+definition_x = transparent (id_of (codes "x")) (universe (codes "u")) (universe (codes "u"))
+
+-- u < v, and u < u.
+abbrev pub below : List ℕ → List ℕ → Constraint
+below left right = record { left = level left; strict = true; right = level right }
+
+-- The constraints of an accepted declaration.
+abbrev pub visible_of : Answer → List Constraint
+visible_of (accepts found) = found.visible
+visible_of (rejects s) = []
+
+abbrev pub proofs_of : Answer → List Constraint
+proofs_of (accepts found) = found.proofs
+proofs_of (rejects s) = []

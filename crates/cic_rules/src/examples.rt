@@ -8,7 +8,7 @@ ghost use Rattle.cic_rules.specs.Outcome.{spent, unguarded, not_positive, bad_el
 ghost use Rattle.cic_rules.specs.GuardTest.{guard_fault};
 ghost use Rattle.cic_rules.specs.BlockTests.{positivity_fault};
 ghost use Rattle.cic_rules.specs.Checking.{check_declaration, rejects};
-ghost use Rattle.cic_rules.specs.Examples.{accepted_in, is_accepted, refuses, id_of, environment, axiom_P, definition_Q, definition_R, definition_Id, definition_t, nat_block, eq_block, definition_plus, definition_two, theorem_plus_n_O, arithmetic, plus_function, f_function, definition_f, g_function, definition_g, bool_block, even_function, odd_function, definition_even, forest_block, bad_block, box_block, two_block, definition_d, definition_e, true_block, false_block, theorem_bad};
+ghost use Rattle.cic_rules.specs.Examples.{accepted_in, is_accepted, refuses, id_of, environment, axiom_P, definition_Q, definition_R, definition_Id, definition_t, nat_block, eq_block, definition_plus, definition_two, theorem_plus_n_O, arithmetic, plus_function, f_function, definition_f, g_function, definition_g, bool_block, even_function, odd_function, definition_even, forest_block, bad_block, box_block, two_block, definition_d, definition_e, true_block, false_block, theorem_bad, axiom_F, theorem_a, definition_x, below, visible_of, proofs_of};
 
 /// The steps of small checks, and a budget that is one step too small.
 pub fn steps_of_checks()
@@ -54,4 +54,12 @@ pub fn fixpoints()
 pub fn theorems()
     ensures by_evaluation { is_accepted (check_declaration arithmetic definition_two 1000) ≡ true }
     ensures by_induction { is_accepted (check_declaration arithmetic theorem_plus_n_O 10000) ≡ true }
+{}
+
+/// The constraints that are found: of an opaque body apart, and all others visible.
+pub fn constraints()
+    ensures accepted { is_accepted (check_declaration (environment (axiom_F ∷ [])) theorem_a 1000) ≡ true }
+    ensures proof { proofs_of (check_declaration (environment (axiom_F ∷ [])) theorem_a 1000) ≡ below (codes "u") (codes "v") ∷ [] }
+    ensures statement { visible_of (check_declaration (environment (axiom_F ∷ [])) theorem_a 1000) ≡ [] }
+    ensures definition { visible_of (check_declaration [] definition_x 1000) ≡ below (codes "u") (codes "u") ∷ [] }
 {}
