@@ -6,3 +6,4 @@ pub mod LiftSubst
 pub mod Most
 pub mod Mentioned
 pub mod Sameness
+pub mod Blocks

@@ -35,30 +35,31 @@ list_any : (id : GlobalId) (m n : ℕ) (bs : List FixBody) → ChildrenMention i
 list_any id m n [] h = h
 list_any id m n (b ∷ bs) h =
     elim (split id (body_parts m b) (body_list m bs) h) [
-      inl k ↦ left id (body_parts n b) (body_list n bs) (parts_any id m n b k)
-    | inr k ↦ right id (body_parts n b) (body_list n bs) (list_any id m n bs k)
+      | inl k ↦ left id (body_parts n b) (body_list n bs) (parts_any id m n b k)
+      | inr k ↦ right id (body_parts n b) (body_list n bs) (list_any id m n bs k)
     ]
 
 pub bodies_mention_are : (id : GlobalId) (bs : FixBodies) (xs : List FixBody) → xs ≡ (out-FixBodies bs).items.items →
     ChildrenMention id (body_list 0 xs) ↔ ChildrenMention id (bodies bs)
 bodies_mention_are id bs xs e =
-    let ys = (out-FixBodies bs).items.items in
-    (λ h. subst (ChildrenMention id) (sym (bodies-out bs)) (list_any id 0 (length ys) ys (subst (ChildrenMention id) (ap (body_list 0) e) h)),
-     λ h. subst (ChildrenMention id) (ap (body_list 0) (sym e)) (list_any id (length ys) 0 ys (subst (ChildrenMention id) (bodies-out bs) h)))
+    let ys = (out-FixBodies bs).items.items in (
+      λ h. subst (ChildrenMention id) (sym (bodies-out bs)) (list_any id 0 (length ys) ys (subst (ChildrenMention id) (ap (body_list 0) e) h)),
+      λ h. subst (ChildrenMention id) (ap (body_list 0) (sym e)) (list_any id (length ys) 0 ys (subst (ChildrenMention id) (bodies-out bs) h)),
+    )
 
 open_parts : (id : GlobalId) (n : ℕ) (b : FixBody) → ChildrenMention id (body_parts n b) → PartsMention id b
 open_parts id n b h =
     elim (split id (terms b.domains) (child (many (domain_count b)) (tree b.codomain) (child (many (n + domain_count b)) (tree b.body) no_child)) h) [
-      inl k ↦ inl k
-    | inr k ↦ inr (elim k [ inl u ↦ inl u | inr u ↦ inr (elim u [ inl v ↦ v | inr v ↦ absurd v ]) ])
+      | inl k ↦ inl k
+      | inr k ↦ inr (elim k [ inl u ↦ inl u | inr u ↦ inr (elim u [ inl v ↦ v | inr v ↦ absurd v ]) ])
     ]
 
 close_parts : (id : GlobalId) (n : ℕ) (b : FixBody) → PartsMention id b → ChildrenMention id (body_parts n b)
 close_parts id n b h =
     let rest = child (many (domain_count b)) (tree b.codomain) (child (many (n + domain_count b)) (tree b.body) no_child) in
     elim h [
-      inl k ↦ left id (terms b.domains) rest k
-    | inr k ↦ right id (terms b.domains) rest (elim k [ inl u ↦ inl u | inr u ↦ inr (inl u) ])
+      | inl k ↦ left id (terms b.domains) rest k
+      | inr k ↦ right id (terms b.domains) rest (elim k [ inl u ↦ inl u | inr u ↦ inr (inl u) ])
     ]
 
 pub mention_step : (id : GlobalId) (b : FixBody) (now rest : List FixBody) → now ≡ b ∷ rest →

@@ -37,7 +37,7 @@ body_row-list : (all : ℕ) (n : _) (row : Row_of-FixBody n) → body_row all ro
 body_row-list all n end_of-FixBody = refl
 body_row-list all n (more_of-FixBody k x ds c b rest) =
     body_step _ _ _ _ all (tree c) (tree b) _ _ (term_row-list 0 _ ds ∙ ap (term_list 0) (sym (items_shown-the_row-Term-1 x ds)))
-      (count_terms-length _ ds ∙ ap length (sym (items_shown-the_row-Term-1 x ds))) (body_row-list all _ rest)
+    (count_terms-length _ ds ∙ ap length (sym (items_shown-the_row-Term-1 x ds))) (body_row-list all _ rest)
 
 shape_row-list : (n : _) (row : Row_of-FixBody n) → shape_row row ≡ shape_list (items-the_row-FixBody n row)
 shape_row-list n end_of-FixBody = refl

@@ -59,15 +59,15 @@ pub record SameLists (n : ℕ) (xs ys : List FixBody) : Type 0 where
 pub same_cons : (n : ℕ) (a b : FixBody) (xs ys xs' ys' : List FixBody) → xs' ≡ a ∷ xs → ys' ≡ b ∷ ys → SameParts a b → SameLists n xs' ys' ↔ SameLists n xs ys
 same_cons n a b xs ys xs' ys' e f s = rw (e, f) (
   λ h.
-    let p = same_parts n a b (body_list n xs) (body_list n ys) (shape_same a b s) h.parts in
-    let t = h.shapes in
-    record { shapes = cc; parts = p.1 },
+      let p = same_parts n a b (body_list n xs) (body_list n ys) (shape_same a b s) h.parts in
+      let t = h.shapes in
+      record { shapes = cc; parts = p.1 },
   λ h.
-    let t = h.shapes in
-    let u = h.parts in
-    let v = shape_same a b s in
-    let w = parts_same n a b s in
-    record { shapes = cc; parts = cc },
+      let t = h.shapes in
+      let u = h.parts in
+      let v = shape_same a b s in
+      let w = parts_same n a b s in
+      record { shapes = cc; parts = cc },
 )
 
 pub same_head : (n : ℕ) (a b : FixBody) (xs ys xs' ys' : List FixBody) → xs' ≡ a ∷ xs → ys' ≡ b ∷ ys → SameLists n xs' ys' → SameParts a b
@@ -81,9 +81,10 @@ pub same_whole : (a b : FixBodies) → length (out-FixBodies a).items.items ≡ 
 same_whole a b n =
     let xs = (out-FixBodies a).items.items in
     let ys = (out-FixBodies b).items.items in
-    let m : body_list (length xs) ys ≡ body_list (length ys) ys = ap (λ z. body_list z ys) n in
-    (λ h. record { shapes = shapes-out a ∙ h.shapes ∙ sym (shapes-out b); parts = bodies-out a ∙ h.parts ∙ m ∙ sym (bodies-out b) },
-     λ h. record { shapes = sym (shapes-out a) ∙ h.shapes ∙ shapes-out b; parts = sym (bodies-out a) ∙ h.parts ∙ bodies-out b ∙ sym m })
+    let m : body_list (length xs) ys ≡ body_list (length ys) ys = ap (λ z. body_list z ys) n in (
+      λ h. record { shapes = shapes-out a ∙ h.shapes ∙ sym (shapes-out b); parts = bodies-out a ∙ h.parts ∙ m ∙ sym (bodies-out b) },
+      λ h. record { shapes = sym (shapes-out a) ∙ h.shapes ∙ shapes-out b; parts = sym (bodies-out a) ∙ h.parts ∙ bodies-out b ∙ sym m },
+    )
 
 pub same_bodies_length : (a b : FixBodies) → SameBodies a b → length (out-FixBodies a).items.items ≡ length (out-FixBodies b).items.items
 same_bodies_length a b s =

@@ -3,7 +3,7 @@ use Rattle.std.specs.Prelude.{ℕ, suc, ◌+◌, List, [], ◌∷◌, length}
 use Rattle.cic_terms.specs.Tree.{TreeSort, prop, set, typ, Shape, Tree, rel, Children, no_child, child, sort, prod, lam, let_in, app, const, ind, ctor, case, fix, join, many}
 use Rattle.cic_terms.specs.declared.level.Sort.{Sort}
 use Rattle.cic_terms.specs.declared.level.Sort.TheVariants.{Prop, Set, Typ}
-use Rattle.cic_terms.specs.declared.term.Term.{Term, Rel, Sort as SortTerm, Prod', Lam', Let', App', Const, Ind, Ctor, Case', Fix}
+use Rattle.cic_terms.specs.declared.term.Term.{Term, Rel, Sort as SortTerm, Prod', Lam', Let', App', Const, Ind, Ctor, Case', Fix'}
 use Rattle.cic_terms.specs.declared.term.Branches.{Branches, Branches', Row_of-Branch, end_of-Branch, more_of-Branch}
 use Rattle.cic_terms.specs.declared.term.FixBodies.{FixBodies, FixBodies', Row_of-FixBody, end_of-FixBody, more_of-FixBody, Row_of-Term, end_of-Term, more_of-Term}
 use Rattle.cic_terms.specs.declared.term.Branch.{Branch}
@@ -42,8 +42,8 @@ abbrev mutual
   tree (Const id) = const id
   tree (Ind id) = ind id
   tree (Ctor id) = ctor id
-  tree (Case' id n _ p _ c bs) = case id n (tree p) (tree c) (branches bs)
-  tree (Fix w bs) = fix w (shapes bs) (bodies bs)
+  tree (Case' n id _ p _ c _ bs) = case id n (tree p) (tree c) (branches bs)
+  tree (Fix' w _ bs) = fix w (shapes bs) (bodies bs)
 
   -- the branches, each under its arguments
   pub branches : Branches → Children

@@ -76,17 +76,3 @@ fix which shapes parts = node (FixF which shapes) parts
 abbrev pub join : Children → Children → Children
 join no_child others = others
 join (child b t ks) others = child b t (join ks others)
-
--- one clause of the question: by the names of the patterns
-abbrev pub is_binder : Tree → ℕ
-is_binder (prod a b) = 1
-is_binder (lam a b) = 2
-is_binder (let_in t a b) = 3
-is_binder _ = 0
-
--- recursive, by the names of the patterns
-abbrev pub spine : Tree → Type 0
-spine (rel n) = Unit
-spine (prod a b) = spine b
-spine (case id n p c bs) = spine c
-spine _ = ⊥

@@ -1,13 +1,14 @@
-
 ghost use Rattle.std.specs.Prelude.{◌≡◌, ◌+◌, ◌-◌, ◌^◌, ◌≤◌, ◌<◌, min, ◌∷◌, []};
 ghost use Rattle.cic_terms.specs.Denotes.{tree, branches, bodies, terms, shapes, shape, body_parts, tree_sort};
 ghost use Rattle.cic_terms.specs.Answer.{Makes, MakesShared, MakesChildren, MakesBody, MakesBodies};
 ghost use Rattle.cic_terms.specs.Tree.{rel, sort, const, ind, ctor};
 ghost use Rattle.cic_terms.specs.Lift.{lift_tree, lift_children};
 
-use crate::term::{Branch, Branches, FixBodies, FixBody, Term, TermFault, Terms, copy_id, copy_sort, keep, shared};
 use crate::level::Sort;
 use crate::name::GlobalId;
+use crate::term::{
+    Branch, Branches, FixBodies, FixBody, Term, TermFault, Terms, copy_id, copy_sort, keep, shared,
+};
 use std::alloc::Global;
 use std::rc::Rc;
 
@@ -30,7 +31,11 @@ fn lift_rel(n: u32, from: u32, by: u32, room: u32) -> Result<Term, TermFault>
     ensures { Makes room (lift_tree from by (rel n)) result }
 {
     if n < from {
-        if n > MOST { Err(TermFault::Deep) } else { Ok(Term::Rel(n)) }
+        if n > MOST {
+            Err(TermFault::Deep)
+        } else {
+            Ok(Term::Rel(n))
+        }
     } else if n > MOST || by > MOST - n {
         Err(TermFault::Deep)
     } else {
@@ -40,7 +45,14 @@ fn lift_rel(n: u32, from: u32, by: u32, room: u32) -> Result<Term, TermFault>
 
 #[cycle(lift)]
 #[inline(never)]
-fn lift_under(alloc: Global, t: &Term, from: u32, more: usize, by: u32, room: u32) -> Result<Term, TermFault>
+fn lift_under(
+    alloc: Global,
+    t: &Term,
+    from: u32,
+    more: usize,
+    by: u32,
+    room: u32,
+) -> Result<Term, TermFault>
     ensures { Makes room (lift_tree (from + more) by (tree t.now)) result }
 {
     lift_at(alloc, t, under(from, more), by, room)
@@ -67,7 +79,7 @@ pub(crate) fn leaf_sort(alloc: Global, s: &Sort, room: u32) -> Result<Term, Term
     requires { 1 ≤ room }
     ensures { Makes room (sort (tree_sort s.now)) result }
 {
-    Ok(Term::Sort(copy_sort(alloc, s)?))
+    Ok(Term::Sort(copy_sort(s)?))
 }
 
 #[inline(never)]
@@ -75,7 +87,7 @@ pub(crate) fn leaf_const(alloc: Global, id: &GlobalId, room: u32) -> Result<Term
     requires { 1 ≤ room }
     ensures { Makes room (const id.now) result }
 {
-    Ok(Term::Const(copy_id(alloc, id)?))
+    Ok(Term::Const(copy_id(id)?))
 }
 
 #[inline(never)]
@@ -83,7 +95,7 @@ pub(crate) fn leaf_ind(alloc: Global, id: &GlobalId, room: u32) -> Result<Term, 
     requires { 1 ≤ room }
     ensures { Makes room (ind id.now) result }
 {
-    Ok(Term::Ind(copy_id(alloc, id)?))
+    Ok(Term::Ind(copy_id(id)?))
 }
 
 #[inline(never)]
@@ -91,12 +103,18 @@ pub(crate) fn leaf_ctor(alloc: Global, id: &GlobalId, room: u32) -> Result<Term,
     requires { 1 ≤ room }
     ensures { Makes room (ctor id.now) result }
 {
-    Ok(Term::Ctor(copy_id(alloc, id)?))
+    Ok(Term::Ctor(copy_id(id)?))
 }
 
 #[cycle(lift)]
 #[inline(never)]
-pub(crate) fn lift_at(alloc: Global, t: &Term, from: u32, by: u32, room: u32) -> Result<Term, TermFault>
+pub(crate) fn lift_at(
+    alloc: Global,
+    t: &Term,
+    from: u32,
+    by: u32,
+    room: u32,
+) -> Result<Term, TermFault>
     ensures { Makes room (lift_tree from by (tree t.now)) result }
 {
     if room == 0 {
@@ -129,39 +147,69 @@ pub(crate) fn lift_at(alloc: Global, t: &Term, from: u32, by: u32, room: u32) ->
             let x = lift_shared(alloc, x, from, 0, by, room - 1)?;
             Ok(Term::App(f, x))
         }
-        Term::Case { ind, arity, motive, scrutinee, branches } => {
+        Term::Case {
+            arity,
+            ind,
+            motive,
+            scrutinee,
+            branches,
+        } => {
             let motive = lift_shared(alloc, motive, from, *arity as usize + 1, by, room - 1)?;
             let scrutinee = lift_shared(alloc, scrutinee, from, 0, by, room - 1)?;
-            let branches = lift_all_branches(alloc, branches, from, by, room - 1)?;
+            let branches = shared(
+                alloc,
+                lift_all_branches(alloc, branches, from, by, room - 1)?,
+            )?;
             Ok(Term::Case {
-                ind: copy_id(alloc, ind)?,
                 arity: *arity,
+                ind: copy_id(ind)?,
                 motive,
                 scrutinee,
                 branches,
             })
         }
         Term::Fix { which, bodies } => {
-            let bodies = lift_all_bodies(alloc, bodies, from, by, room - 1)?;
-            Ok(Term::Fix { which: *which, bodies })
+            let bodies = shared(alloc, lift_all_bodies(alloc, bodies, from, by, room - 1)?)?;
+            Ok(Term::Fix {
+                which: *which,
+                bodies,
+            })
         }
     }
 }
 
 #[cycle(lift)]
-fn lift_all_branches(alloc: Global, all: &Branches, from: u32, by: u32, room: u32) -> Result<Branches, TermFault>
+fn lift_all_branches(
+    alloc: Global,
+    all: &Branches,
+    from: u32,
+    by: u32,
+    room: u32,
+) -> Result<Branches, TermFault>
     ensures { MakesChildren branches room (lift_children from by (branches all.now)) result }
 {
     let mut items = Vec::new(alloc);
     for branch in &all.items {
         let body = lift_under(alloc, &branch.body, from, branch.binders as usize, by, room)?;
-        keep(&mut items, Branch { binders: branch.binders, body })?;
+        keep(
+            &mut items,
+            Branch {
+                binders: branch.binders,
+                body,
+            },
+        )?;
     }
     Ok(Branches { items })
 }
 
 #[cycle(lift)]
-fn lift_all_terms(alloc: Global, all: &Terms, from: u32, by: u32, room: u32) -> Result<Terms, TermFault>
+fn lift_all_terms(
+    alloc: Global,
+    all: &Terms,
+    from: u32,
+    by: u32,
+    room: u32,
+) -> Result<Terms, TermFault>
     ensures { MakesChildren terms room (lift_children from by (terms all.now)) result }
 {
     let mut items = Vec::new(alloc);
@@ -173,7 +221,14 @@ fn lift_all_terms(alloc: Global, all: &Terms, from: u32, by: u32, room: u32) -> 
 }
 
 #[cycle(lift)]
-fn lift_body(alloc: Global, one: &FixBody, count: usize, from: u32, by: u32, room: u32) -> Result<FixBody, TermFault>
+fn lift_body(
+    alloc: Global,
+    one: &FixBody,
+    count: usize,
+    from: u32,
+    by: u32,
+    room: u32,
+) -> Result<FixBody, TermFault>
     requires { count < 2 ^ 62 }
     ensures { MakesBody count room one.now (lift_children from by (body_parts count one.now)) result }
 {
@@ -181,11 +236,22 @@ fn lift_body(alloc: Global, one: &FixBody, count: usize, from: u32, by: u32, roo
     let domains = lift_all_terms(alloc, &one.domains, from, by, room)?;
     let codomain = lift_under(alloc, &one.codomain, from, above, by, room)?;
     let body = lift_under(alloc, &one.body, from, count + above, by, room)?;
-    Ok(FixBody { k: one.k, domains, codomain, body })
+    Ok(FixBody {
+        k: one.k,
+        domains,
+        codomain,
+        body,
+    })
 }
 
 #[cycle(lift)]
-fn lift_all_bodies(alloc: Global, all: &FixBodies, from: u32, by: u32, room: u32) -> Result<FixBodies, TermFault>
+fn lift_all_bodies(
+    alloc: Global,
+    all: &FixBodies,
+    from: u32,
+    by: u32,
+    room: u32,
+) -> Result<FixBodies, TermFault>
     ensures { MakesBodies room all.now (lift_children from by (bodies all.now)) result }
 {
     let count = all.items.len();

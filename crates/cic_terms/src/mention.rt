@@ -15,7 +15,9 @@ pub fn mentions(t: &Term, id: &GlobalId) -> bool
         Term::Rel(_) | Term::Sort(_) => false,
         Term::Const(other) | Term::Ind(other) | Term::Ctor(other) => other.same(id),
         Term::Prod(a, b) | Term::Lam(a, b) | Term::App(a, b) => mentions(a, id) || mentions(b, id),
-        Term::Let { body, ty, rest } => mentions(body, id) || mentions(ty, id) || mentions(rest, id),
+        Term::Let { body, ty, rest } => mentions(body, id)
+            || mentions(ty, id)
+            || mentions(rest, id),
         Term::Case {
             ind,
             motive,

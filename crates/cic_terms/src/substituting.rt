@@ -21,7 +21,11 @@ fn subst_rel_at(alloc: Global, n: u32, at: u128, with: &Term, room: u32) -> Resu
         return lift_at(alloc, with, 0, n, room);
     }
     let n = if number < at { n } else { n - 1 };
-    if n > MOST { Err(TermFault::Deep) } else { Ok(Term::Rel(n)) }
+    if n > MOST {
+        Err(TermFault::Deep)
+    } else {
+        Ok(Term::Rel(n))
+    }
 }
 
 #[cycle(subst)]
@@ -41,7 +45,13 @@ fn subst_shared(
 
 #[cycle(subst)]
 #[inline(never)]
-pub(crate) fn subst_at(alloc: Global, t: &Term, at: u128, with: &Term, room: u32) -> Result<Term, TermFault>
+pub(crate) fn subst_at(
+    alloc: Global,
+    t: &Term,
+    at: u128,
+    with: &Term,
+    room: u32,
+) -> Result<Term, TermFault>
     requires { at + room * 2 ^ 66 < 2 ^ 127 }
     ensures { Makes room (subst_tree at (tree with.now) (tree t.now)) result }
 {
@@ -68,51 +78,77 @@ pub(crate) fn subst_at(alloc: Global, t: &Term, at: u128, with: &Term, room: u32
             let body = subst_shared(alloc, body, at, with, room - 1)?;
             let ty = subst_shared(alloc, ty, at, with, room - 1)?;
             let rest = subst_shared(alloc, rest, at + 1, with, room - 1)?;
-            Ok(Term::Let {
-                body,
-                ty,
-                rest,
-            })
+            Ok(Term::Let { body, ty, rest })
         }
         Term::App(f, x) => {
             let f = subst_shared(alloc, f, at, with, room - 1)?;
             let x = subst_shared(alloc, x, at, with, room - 1)?;
             Ok(Term::App(f, x))
         }
-        Term::Case { ind, arity, motive, scrutinee, branches } => {
+        Term::Case {
+            arity,
+            ind,
+            motive,
+            scrutinee,
+            branches,
+        } => {
             let motive = subst_shared(alloc, motive, at + (*arity as u128 + 1), with, room - 1)?;
             let scrutinee = subst_shared(alloc, scrutinee, at, with, room - 1)?;
-            let branches = subst_all_branches(alloc, branches, at, with, room - 1)?;
+            let branches = shared(
+                alloc,
+                subst_all_branches(alloc, branches, at, with, room - 1)?,
+            )?;
             Ok(Term::Case {
-                ind: copy_id(alloc, ind)?,
                 arity: *arity,
+                ind: copy_id(ind)?,
                 motive,
                 scrutinee,
                 branches,
             })
         }
         Term::Fix { which, bodies } => {
-            let bodies = subst_all_bodies(alloc, bodies, at, with, room - 1)?;
-            Ok(Term::Fix { which: *which, bodies })
+            let bodies = shared(alloc, subst_all_bodies(alloc, bodies, at, with, room - 1)?)?;
+            Ok(Term::Fix {
+                which: *which,
+                bodies,
+            })
         }
     }
 }
 
 #[cycle(subst)]
-fn subst_all_branches(alloc: Global, all: &Branches, at: u128, with: &Term, room: u32) -> Result<Branches, TermFault>
+fn subst_all_branches(
+    alloc: Global,
+    all: &Branches,
+    at: u128,
+    with: &Term,
+    room: u32,
+) -> Result<Branches, TermFault>
     requires { at + (room + 1) * 2 ^ 66 < 2 ^ 127 }
     ensures { MakesChildren branches room (subst_children at (tree with.now) (branches all.now)) result }
 {
     let mut items = Vec::new(alloc);
     for branch in &all.items {
         let body = subst_at(alloc, &branch.body, at + branch.binders as u128, with, room)?;
-        keep(&mut items, Branch { binders: branch.binders, body })?;
+        keep(
+            &mut items,
+            Branch {
+                binders: branch.binders,
+                body,
+            },
+        )?;
     }
     Ok(Branches { items })
 }
 
 #[cycle(subst)]
-fn subst_all_terms(alloc: Global, all: &Terms, at: u128, with: &Term, room: u32) -> Result<Terms, TermFault>
+fn subst_all_terms(
+    alloc: Global,
+    all: &Terms,
+    at: u128,
+    with: &Term,
+    room: u32,
+) -> Result<Terms, TermFault>
     requires { at + (room + 1) * 2 ^ 66 < 2 ^ 127 }
     ensures { MakesChildren terms room (subst_children at (tree with.now) (terms all.now)) result }
 {
@@ -125,19 +161,43 @@ fn subst_all_terms(alloc: Global, all: &Terms, at: u128, with: &Term, room: u32)
 }
 
 #[cycle(subst)]
-fn subst_body(alloc: Global, one: &FixBody, count: usize, at: u128, with: &Term, room: u32) -> Result<FixBody, TermFault>
+fn subst_body(
+    alloc: Global,
+    one: &FixBody,
+    count: usize,
+    at: u128,
+    with: &Term,
+    room: u32,
+) -> Result<FixBody, TermFault>
     requires { at + (room + 1) * 2 ^ 66 < 2 ^ 127 }
     ensures { MakesBody count room one.now (subst_children at (tree with.now) (body_parts count one.now)) result }
 {
     let above = one.domains.items.len();
     let domains = subst_all_terms(alloc, &one.domains, at, with, room)?;
     let codomain = subst_at(alloc, &one.codomain, at + above as u128, with, room)?;
-    let body = subst_at(alloc, &one.body, at + (count as u128 + above as u128), with, room)?;
-    Ok(FixBody { k: one.k, domains, codomain, body })
+    let body = subst_at(
+        alloc,
+        &one.body,
+        at + (count as u128 + above as u128),
+        with,
+        room,
+    )?;
+    Ok(FixBody {
+        k: one.k,
+        domains,
+        codomain,
+        body,
+    })
 }
 
 #[cycle(subst)]
-fn subst_all_bodies(alloc: Global, all: &FixBodies, at: u128, with: &Term, room: u32) -> Result<FixBodies, TermFault>
+fn subst_all_bodies(
+    alloc: Global,
+    all: &FixBodies,
+    at: u128,
+    with: &Term,
+    room: u32,
+) -> Result<FixBodies, TermFault>
     requires { at + (room + 1) * 2 ^ 66 < 2 ^ 127 }
     ensures { MakesBodies room all.now (subst_children at (tree with.now) (bodies all.now)) result }
 {

@@ -14,26 +14,28 @@ use Rattle.cic_terms.proofs.lifting.+lift.Goals as goal
 
 pub lift_all_bodies-loop-one-init : goal.lift_all_bodies-loop-one-init
 lift_all_bodies-loop-one-init t c =
-    let n : c.len-count.result ≡ length (out-FixBodies c.args.all.now).items.items = c.len-count.ensures ∙ (out-FixBodies c.args.all.now).items.ok.0 in
-    (rw c.new-items.ensures.items (shapes_are _ _ c.deref-one-items.ensures.value),
-     children_begin _ _ _ _ (ap (body_list c.len-count.result) c.new-items.ensures.items) (ap (lift_children c.args.from c.args.by) (bodies_are _ _ _ c.deref-one-items.ensures.value n)))
+    let n : c.len-count.result ≡ length (out-FixBodies c.args.all.now).items.items = c.len-count.ensures ∙ (out-FixBodies c.args.all.now).items.ok.0 in (
+      rw c.new-items.ensures.items (shapes_are _ _ c.deref-one-items.ensures.value),
+      children_begin _ _ _ _ (ap (body_list c.len-count.result) c.new-items.ensures.items) (ap (lift_children c.args.from c.args.by) (bodies_are _ _ _ c.deref-one-items.ensures.value n)),
+    )
 
 pub lift_all_bodies-returns-in_err-lifted : goal.lift_all_bodies-returns-in_err-lifted
 lift_all_bodies-returns-in_err-lifted t c =
     let p = err_from_is_err_and c.from_residual.result c.from_residual.ensures.1 in
     let now = ap (λ (l : List FixBody). lift_children c.args.from c.args.by (body_list c.len-count.result l)) (drop_at c.deref-one-items.result.now c.loop-one.one-index c.one-item.result c.loop-one-test.true c.one-item.is)
-      ∙ lift_join c.args.from c.args.by (body_parts c.len-count.result c.one-item.result) (body_list c.len-count.result (drop (c.loop-one.one-index + 1) c.deref-one-items.result.now)) in
+    ∙ lift_join c.args.from c.args.by (body_parts c.len-count.result c.one-item.result) (body_list c.len-count.result (drop (c.loop-one.one-index + 1) c.deref-one-items.result.now)) in
     rw (p.1, p.2) (record { shapes = tt; children = record { ok = tt; fits = tt; deep = λ d. children_refused _ _ _ _ _ _ c.loop-one.invariant.1 now (c.in_err-lifted.ensures.children.deep d) } })
 
 pub lift_all_bodies-loop-one-preserved : goal.lift_all_bodies-loop-one-preserved
 lift_all_bodies-loop-one-preserved t c =
     let at = drop_at c.deref-one-items.result.now c.loop-one.one-index c.one-item.result c.loop-one-test.true c.one-item.is in
     let now = ap (λ (l : List FixBody). lift_children c.args.from c.args.by (body_list c.len-count.result l)) at
-      ∙ lift_join c.args.from c.args.by (body_parts c.len-count.result c.one-item.result) (body_list c.len-count.result (drop (c.loop-one.one-index + 1) c.deref-one-items.result.now)) in
+    ∙ lift_join c.args.from c.args.by (body_parts c.len-count.result c.one-item.result) (body_list c.len-count.result (drop (c.loop-one.one-index + 1) c.deref-one-items.result.now)) in
     let made = ap (body_list c.len-count.result) c.in_ok-keep.ensures.ok ∙ body_more c.len-count.result c.loop-one.items.items c.in_ok-lifted.lifted
-      ∙ ap (join (body_list c.len-count.result c.loop-one.items.items)) c.in_ok-lifted.ensures.children.ok in
-    (shapes_more _ _ _ _ _ _ _ c.loop-one.invariant.0 at c.in_ok-keep.ensures.ok c.in_ok-lifted.ensures.shape,
-     children_more _ _ _ _ _ _ _ c.loop-one.invariant.1 now made c.in_ok-lifted.ensures.children.fits)
+    ∙ ap (join (body_list c.len-count.result c.loop-one.items.items)) c.in_ok-lifted.ensures.children.ok in (
+      shapes_more _ _ _ _ _ _ _ c.loop-one.invariant.0 at c.in_ok-keep.ensures.ok c.in_ok-lifted.ensures.shape,
+      children_more _ _ _ _ _ _ _ c.loop-one.invariant.1 now made c.in_ok-lifted.ensures.children.fits,
+    )
 
 pub lift_all_bodies-returns : goal.lift_all_bodies-returns
 lift_all_bodies-returns t c =
@@ -71,9 +73,10 @@ lift_all_branches-returns t c =
     record { ok = branches-roll _ ∙ p.0; fits = p.1; deep = tt }
 
 pub lift_all_terms-loop-above-init : goal.lift_all_terms-loop-above-init
-lift_all_terms-loop-above-init t c =
-    (ap length c.new-items.ensures.items,
-     children_begin _ _ _ _ (ap (term_list 0) c.new-items.ensures.items) (ap (λ (l : List Term). lift_children c.args.from c.args.by (term_list 0 l)) c.deref-term-items.ensures.value))
+lift_all_terms-loop-above-init t c = (
+  ap length c.new-items.ensures.items,
+  children_begin _ _ _ _ (ap (term_list 0) c.new-items.ensures.items) (ap (λ (l : List Term). lift_children c.args.from c.args.by (term_list 0 l)) c.deref-term-items.ensures.value),
+)
 
 pub lift_all_terms-returns-in_err-lifted : goal.lift_all_terms-returns-in_err-lifted
 lift_all_terms-returns-in_err-lifted t c =
@@ -84,9 +87,10 @@ lift_all_terms-returns-in_err-lifted t c =
 pub lift_all_terms-loop-above-preserved : goal.lift_all_terms-loop-above-preserved
 lift_all_terms-loop-above-preserved t c =
     let now = ap (λ (l : List Term). lift_children c.args.from c.args.by (term_list c.loop-above.above l)) (drop_at c.deref-term-items.result.now c.loop-above.above c.term-item.result c.loop-above-test.true c.term-item.is) in
-    let made = ap (term_list 0) c.in_ok-keep.ensures.ok ∙ term_more 0 c.loop-above.above c.loop-above.items.items c.in_ok-lifted.lifted (omega (arith, c.loop-above.invariant.0)) in
-    (rw c.in_ok-keep.ensures.ok (rw length-append (ap (λ n. n + 1) c.loop-above.invariant.0)),
-     children_more _ _ _ _ _ _ _ c.loop-above.invariant.1 (cc (now, c.in_ok-lifted.ensures.ok)) made (rw c.in_ok-lifted.ensures.ok (kid_fits _ _ _ c.in_ok-lifted.ensures.fits)))
+    let made = ap (term_list 0) c.in_ok-keep.ensures.ok ∙ term_more 0 c.loop-above.above c.loop-above.items.items c.in_ok-lifted.lifted (omega (arith, c.loop-above.invariant.0)) in (
+      rw c.in_ok-keep.ensures.ok (rw length-append (ap (λ n. n + 1) c.loop-above.invariant.0)),
+      children_more _ _ _ _ _ _ _ c.loop-above.invariant.1 (cc (now, c.in_ok-lifted.ensures.ok)) made (rw c.in_ok-lifted.ensures.ok (kid_fits _ _ _ c.in_ok-lifted.ensures.fits)),
+    )
 
 pub lift_all_terms-returns : goal.lift_all_terms-returns
 lift_all_terms-returns t c =

@@ -14,26 +14,28 @@ use Rattle.cic_terms.proofs.substituting.+subst.Goals as goal
 
 pub subst_all_bodies-loop-one-init : goal.subst_all_bodies-loop-one-init
 subst_all_bodies-loop-one-init t c =
-    let n : c.len-count.result ≡ length (out-FixBodies c.args.all.now).items.items = c.len-count.ensures ∙ (out-FixBodies c.args.all.now).items.ok.0 in
-    (rw c.new-items.ensures.items (shapes_are _ _ c.deref-one-items.ensures.value),
-     children_begin _ _ _ _ (ap (body_list c.len-count.result) c.new-items.ensures.items) (ap (subst_children c.args.at (tree c.args.with.now)) (bodies_are _ _ _ c.deref-one-items.ensures.value n)))
+    let n : c.len-count.result ≡ length (out-FixBodies c.args.all.now).items.items = c.len-count.ensures ∙ (out-FixBodies c.args.all.now).items.ok.0 in (
+      rw c.new-items.ensures.items (shapes_are _ _ c.deref-one-items.ensures.value),
+      children_begin _ _ _ _ (ap (body_list c.len-count.result) c.new-items.ensures.items) (ap (subst_children c.args.at (tree c.args.with.now)) (bodies_are _ _ _ c.deref-one-items.ensures.value n)),
+    )
 
 pub subst_all_bodies-returns-in_err-replaced : goal.subst_all_bodies-returns-in_err-replaced
 subst_all_bodies-returns-in_err-replaced t c =
     let p = err_from_is_err_and c.from_residual.result c.from_residual.ensures.1 in
     let now = ap (λ (l : List FixBody). subst_children c.args.at (tree c.args.with.now) (body_list c.len-count.result l)) (drop_at c.deref-one-items.result.now c.loop-one.one-index c.one-item.result c.loop-one-test.true c.one-item.is)
-      ∙ subst_join c.args.at (tree c.args.with.now) (body_parts c.len-count.result c.one-item.result) (body_list c.len-count.result (drop (c.loop-one.one-index + 1) c.deref-one-items.result.now)) in
+    ∙ subst_join c.args.at (tree c.args.with.now) (body_parts c.len-count.result c.one-item.result) (body_list c.len-count.result (drop (c.loop-one.one-index + 1) c.deref-one-items.result.now)) in
     rw (p.1, p.2) (record { shapes = tt; children = record { ok = tt; fits = tt; deep = λ d. children_refused _ _ _ _ _ _ c.loop-one.invariant.1 now (c.in_err-replaced.ensures.children.deep d) } })
 
 pub subst_all_bodies-loop-one-preserved : goal.subst_all_bodies-loop-one-preserved
 subst_all_bodies-loop-one-preserved t c =
     let at = drop_at c.deref-one-items.result.now c.loop-one.one-index c.one-item.result c.loop-one-test.true c.one-item.is in
     let now = ap (λ (l : List FixBody). subst_children c.args.at (tree c.args.with.now) (body_list c.len-count.result l)) at
-      ∙ subst_join c.args.at (tree c.args.with.now) (body_parts c.len-count.result c.one-item.result) (body_list c.len-count.result (drop (c.loop-one.one-index + 1) c.deref-one-items.result.now)) in
+    ∙ subst_join c.args.at (tree c.args.with.now) (body_parts c.len-count.result c.one-item.result) (body_list c.len-count.result (drop (c.loop-one.one-index + 1) c.deref-one-items.result.now)) in
     let made = ap (body_list c.len-count.result) c.in_ok-keep.ensures.ok ∙ body_more c.len-count.result c.loop-one.items.items c.in_ok-replaced.replaced
-      ∙ ap (join (body_list c.len-count.result c.loop-one.items.items)) c.in_ok-replaced.ensures.children.ok in
-    (shapes_more _ _ _ _ _ _ _ c.loop-one.invariant.0 at c.in_ok-keep.ensures.ok c.in_ok-replaced.ensures.shape,
-     children_more _ _ _ _ _ _ _ c.loop-one.invariant.1 now made c.in_ok-replaced.ensures.children.fits)
+    ∙ ap (join (body_list c.len-count.result c.loop-one.items.items)) c.in_ok-replaced.ensures.children.ok in (
+      shapes_more _ _ _ _ _ _ _ c.loop-one.invariant.0 at c.in_ok-keep.ensures.ok c.in_ok-replaced.ensures.shape,
+      children_more _ _ _ _ _ _ _ c.loop-one.invariant.1 now made c.in_ok-replaced.ensures.children.fits,
+    )
 
 pub subst_all_bodies-returns : goal.subst_all_bodies-returns
 subst_all_bodies-returns t c =
@@ -71,9 +73,10 @@ subst_all_branches-returns t c =
     record { ok = branches-roll _ ∙ p.0; fits = p.1; deep = tt }
 
 pub subst_all_terms-loop-above-init : goal.subst_all_terms-loop-above-init
-subst_all_terms-loop-above-init t c =
-    (ap length c.new-items.ensures.items,
-     children_begin _ _ _ _ (ap (term_list 0) c.new-items.ensures.items) (ap (λ (l : List Term). subst_children c.args.at (tree c.args.with.now) (term_list 0 l)) c.deref-term-items.ensures.value))
+subst_all_terms-loop-above-init t c = (
+  ap length c.new-items.ensures.items,
+  children_begin _ _ _ _ (ap (term_list 0) c.new-items.ensures.items) (ap (λ (l : List Term). subst_children c.args.at (tree c.args.with.now) (term_list 0 l)) c.deref-term-items.ensures.value),
+)
 
 pub subst_all_terms-returns-in_err-replaced : goal.subst_all_terms-returns-in_err-replaced
 subst_all_terms-returns-in_err-replaced t c =
@@ -84,9 +87,10 @@ subst_all_terms-returns-in_err-replaced t c =
 pub subst_all_terms-loop-above-preserved : goal.subst_all_terms-loop-above-preserved
 subst_all_terms-loop-above-preserved t c =
     let now = ap (λ (l : List Term). subst_children c.args.at (tree c.args.with.now) (term_list c.loop-above.above l)) (drop_at c.deref-term-items.result.now c.loop-above.above c.term-item.result c.loop-above-test.true c.term-item.is) in
-    let made = ap (term_list 0) c.in_ok-keep.ensures.ok ∙ term_more 0 c.loop-above.above c.loop-above.items.items c.in_ok-replaced.replaced (omega (arith, c.loop-above.invariant.0)) in
-    (rw c.in_ok-keep.ensures.ok (rw length-append (ap (λ n. n + 1) c.loop-above.invariant.0)),
-     children_more _ _ _ _ _ _ _ c.loop-above.invariant.1 (cc (now, c.in_ok-replaced.ensures.ok)) made (rw c.in_ok-replaced.ensures.ok (kid_fits _ _ _ c.in_ok-replaced.ensures.fits)))
+    let made = ap (term_list 0) c.in_ok-keep.ensures.ok ∙ term_more 0 c.loop-above.above c.loop-above.items.items c.in_ok-replaced.replaced (omega (arith, c.loop-above.invariant.0)) in (
+      rw c.in_ok-keep.ensures.ok (rw length-append (ap (λ n. n + 1) c.loop-above.invariant.0)),
+      children_more _ _ _ _ _ _ _ c.loop-above.invariant.1 (cc (now, c.in_ok-replaced.ensures.ok)) made (rw c.in_ok-replaced.ensures.ok (kid_fits _ _ _ c.in_ok-replaced.ensures.fits)),
+    )
 
 pub subst_all_terms-returns : goal.subst_all_terms-returns
 subst_all_terms-returns t c =
@@ -131,4 +135,3 @@ subst_body-returns t c =
         deep = tt;
       };
     })
-

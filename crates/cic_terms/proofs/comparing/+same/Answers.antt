@@ -4,7 +4,7 @@ use Rattle.cic_terms.specs.declared.term.FixBodies.{out-FixBodies}
 use Rattle.cic_terms.proofs.Children.{drop_at}
 use Rattle.cic_terms.proofs.Rows.{branches-out}
 use Rattle.cic_terms.proofs.Sameness.{branches_length, same_bodies_length, trees_length, differ, same_whole, same_cons, same_head}
-use Rattle.cic_terms.proofs.same.+same.Goals as goal
+use Rattle.cic_terms.proofs.comparing.+same.Goals as goal
 
 pub same_bodies-returns-then-len : goal.same_bodies-returns-then-len
 same_bodies-returns-then-len t c =
@@ -36,10 +36,12 @@ same_bodies-returns-then-not-same_body t c =
     let m : c.len-i-end.result ≡ length a.items = c.len-i-end.ensures ∙ a.ok.0 in
     let n : length a.items ≡ length b.items = sym (c.len.ensures ∙ a.ok.0) ∙ c.if-len.false ∙ c.len-2.ensures ∙ b.ok.0 in
     let xs = drop_at a.items i c.index.result.now (omega (arith, c.loop-i-test.true, m)) c.index.ensures in
-    let ys = drop_at b.items i c.index-in-loop-i.result.now (omega (arith, c.loop-i-test.true, m, n)) c.index-in-loop-i.ensures in
-    (λ z. absurd (true≢false (sym z)), λ s.
-      let k = same_head _ _ _ _ _ _ _ xs ys (c.loop-i.invariant.1 s) in
-      sym c.if-not-same_body.true ∙ c.same_body.ensures.1 k)
+    let ys = drop_at b.items i c.index-in-loop-i.result.now (omega (arith, c.loop-i-test.true, m, n)) c.index-in-loop-i.ensures in (
+      λ z. absurd (true≢false (sym z)),
+      λ s.
+          let k = same_head _ _ _ _ _ _ _ xs ys (c.loop-i.invariant.1 s) in
+          sym c.if-not-same_body.true ∙ c.same_body.ensures.1 k,
+    )
 
 pub same_bodies-loop-i-preserved : goal.same_bodies-loop-i-preserved
 same_bodies-loop-i-preserved t c =

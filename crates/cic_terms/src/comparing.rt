@@ -6,15 +6,15 @@ use crate::term::{Branches, FixBodies, FixBody, Term, Terms};
 
 /// Whether the two are the same tree.
 #[cycle(same)]
-pub fn same_term(a: &Term, b: &Term) -> bool
+pub fn same(a: &Term, b: &Term) -> bool
     ensures { IsTrue result ↔ (tree a.now ≡ tree b.now) }
 {
     match (a, b) {
         (Term::Rel(m), Term::Rel(n)) => m == n,
         (Term::Sort(s), Term::Sort(u)) => s.same(u),
-        (Term::Prod(a, c), Term::Prod(b, d)) => same_term(a, b) && same_term(c, d),
-        (Term::Lam(a, c), Term::Lam(b, d)) => same_term(a, b) && same_term(c, d),
-        (Term::App(a, c), Term::App(b, d)) => same_term(a, b) && same_term(c, d),
+        (Term::Prod(a, c), Term::Prod(b, d)) => same(a, b) && same(c, d),
+        (Term::Lam(a, c), Term::Lam(b, d)) => same(a, b) && same(c, d),
+        (Term::App(a, c), Term::App(b, d)) => same(a, b) && same(c, d),
         (Term::Const(i), Term::Const(j)) => i.same(j),
         (Term::Ind(i), Term::Ind(j)) => i.same(j),
         (Term::Ctor(i), Term::Ctor(j)) => i.same(j),
@@ -25,7 +25,7 @@ pub fn same_term(a: &Term, b: &Term) -> bool
                 ty: ty_b,
                 rest: rest_b,
             },
-        ) => same_term(body, body_b) && same_term(ty, ty_b) && same_term(rest, rest_b),
+        ) => same(body, body_b) && same(ty, ty_b) && same(rest, rest_b),
         (
             Term::Case {
                 ind,
@@ -44,8 +44,8 @@ pub fn same_term(a: &Term, b: &Term) -> bool
         ) => {
             ind.same(ind_b)
                 && arity == arity_b
-                && same_term(motive, motive_b)
-                && same_term(scrutinee, scrutinee_b)
+                && same(motive, motive_b)
+                && same(scrutinee, scrutinee_b)
                 && same_branches(branches, branches_b)
         }
         (
@@ -67,7 +67,7 @@ fn same_branches(a: &Branches, b: &Branches) -> bool
         return false;
     }
     for i in 0..a.items.len() {
-        if a.items[i].binders != b.items[i].binders || !same_term(&a.items[i].body, &b.items[i].body) {
+        if a.items[i].binders != b.items[i].binders || !same(&a.items[i].body, &b.items[i].body) {
             return false;
         }
     }
@@ -82,7 +82,7 @@ fn same_terms(a: &Terms, b: &Terms) -> bool
         return false;
     }
     for i in 0..a.items.len() {
-        if !same_term(&a.items[i], &b.items[i]) {
+        if !same(&a.items[i], &b.items[i]) {
             return false;
         }
     }
@@ -95,8 +95,8 @@ fn same_body(a: &FixBody, b: &FixBody) -> bool
 {
     a.k == b.k
         && same_terms(&a.domains, &b.domains)
-        && same_term(&a.codomain, &b.codomain)
-        && same_term(&a.body, &b.body)
+        && same(&a.codomain, &b.codomain)
+        && same(&a.body, &b.body)
 }
 
 #[cycle(same)]
