@@ -1,2 +1,3 @@
 pub mod NotVoid
 pub mod ByHand
+pub mod Decided
