@@ -1,2 +1,4 @@
 pub mod NotVoid
 pub mod ByHand
+pub mod Decided
+pub mod Functions

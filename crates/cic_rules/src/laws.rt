@@ -1,11 +1,12 @@
-ghost use Rattle.std.specs.Prelude.{◌≡◌, ◌≢◌, ℕ, [], ◌∷◌, true, List, Option};
+ghost use Rattle.std.specs.Prelude.{◌≡◌, ◌↔◌, ◌≢◌, ℕ, [], ◌∷◌, true, List, length, Option, Some};
 ghost use Rattle.cic_terms.specs.Tree.{TreeSort, prop, set, typ, Tree, sort, prod, const};
 ghost use Rattle.cic_terms.specs.declared.name.GlobalId.{GlobalId};
 ghost use Rattle.cic_terms.specs.declared.level.LevelName.{LevelName};
 ghost use Rattle.cic_terms.specs.declared.level.Level.TheVariants as Level;
+ghost use Rattle.cic_rules.specs.Sameness.{same_tree};
 ghost use Rattle.cic_rules.specs.Numbering.{Numbering, IsNumbering, Meets, sort_number};
 ghost use Rattle.cic_rules.specs.Environment.{Environment, Context, TypeDeclaration, ConstructorDeclaration, opaque, declared};
-ghost use Rattle.cic_rules.specs.Telescopes.{fixpoint, products};
+ghost use Rattle.cic_rules.specs.Telescopes.{Function, fixpoint, function_parts, function_shapes, functions_of, products};
 ghost use Rattle.cic_rules.specs.Step.{Step};
 ghost use Rattle.cic_rules.specs.Conversion.{Convertible, AtMost};
 ghost use Rattle.cic_rules.specs.Inductive.{PositiveBlock};
@@ -52,4 +53,14 @@ pub fn named_levels_are_above_set()
 /// A derivation of the rules: a fixpoint with a match, whose codomain is unfolded.
 pub fn fixpoint_is_derivable()
     ensures { Derivation with_N [] [] (fixpoint 0 (zero_function ∷ [])) (prod nat N) }
+{}
+
+/// The test of equality of terms decides it.
+pub fn same_tree_is_equality()
+    ensures { (t u : Tree) → (same_tree t u ≡ true) ↔ (t ≡ u) }
+{}
+
+/// The functions of a fixpoint are those that its parts were made of.
+pub fn functions_are_read_off()
+    ensures { (fs : List Function) → functions_of (function_shapes fs) (function_parts (length fs) fs) ≡ Some fs }
 {}
