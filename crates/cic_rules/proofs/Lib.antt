@@ -2,3 +2,4 @@ pub mod NotVoid
 pub mod ByHand
 pub mod Decided
 pub mod Functions
+pub mod Taken

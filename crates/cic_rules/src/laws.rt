@@ -11,6 +11,9 @@ ghost use Rattle.cic_rules.specs.Step.{Step};
 ghost use Rattle.cic_rules.specs.Conversion.{Convertible, AtMost};
 ghost use Rattle.cic_rules.specs.Inductive.{PositiveBlock};
 ghost use Rattle.cic_rules.specs.Guard.{Guarded};
+ghost use Rattle.cic_rules.specs.Outcome.{Budget, done};
+ghost use Rattle.cic_rules.specs.Evaluation.{whnf_at};
+ghost use Rattle.cic_rules.specs.Done.{Evaluated};
 ghost use Rattle.cic_rules.specs.Typing.{Derivation, Eliminated};
 ghost use Rattle.cic_rules.specs.Examples.{bad_block, f_function, N, nat, with_N, zero_function};
 
@@ -63,4 +66,9 @@ pub fn same_tree_is_equality()
 /// The functions of a fixpoint are those that its parts were made of.
 pub fn functions_are_read_off()
     ensures { (fs : List Function) → functions_of (function_shapes fs) (function_parts (length fs) fs) ≡ Some fs }
+{}
+
+/// Where evaluation is done, the relation holds, at the cost that was taken.
+pub fn evaluation_has_its_cost()
+    ensures { (E : Environment) (G : Context) (k : ℕ) (t v : Tree) (b b' : Budget) → whnf_at k E G t b ≡ done v b' → Evaluated E G k t v b b' }
 {}
