@@ -3,3 +3,4 @@ pub mod ByHand
 pub mod Decided
 pub mod Functions
 pub mod Taken
+pub mod TakenConversion

@@ -13,31 +13,31 @@ insert_all-append : (found cs ds : List Constraint) → insert_all found (cs ++ 
 insert_all-append found [] ds = refl
 insert_all-append found (c ∷ cs) ds = insert_all-append (insert c found) cs ds
 
-took_free : (b : Budget) → Took free b b
+pub took_free : (b : Budget) → Took free b b
 took_free b = record { rest = omega arith; found = refl }
 
-took_then : {c d : Cost} {b b' b'' : Budget} → Took c b b' → Took d b' b'' → Took (c then d) b b''
+pub took_then : {c d : Cost} {b b' b'' : Budget} → Took c b b' → Took d b' b'' → Took (c then d) b b''
 took_then {c} {d} {b} {b'} {b''} h k = record {
   rest = let p = h.rest in let q = k.rest in omega (arith, p, q);
   found = k.found ∙ ap (λ z. insert_all z d.found) h.found ∙ sym (insert_all-append b.found c.found d.found);
 }
 
 -- A step, or the entry of a call, comes before.
-took_step : {c : Cost} {b' : Budget} (rest : ℕ) (found : List Constraint) → Took c (record { rest = rest; found = found }) b' → Took (stepped c) (record { rest = suc rest; found = found }) b'
+pub took_step : {c : Cost} {b' : Budget} (rest : ℕ) (found : List Constraint) → Took c (record { rest = rest; found = found }) b' → Took (stepped c) (record { rest = suc rest; found = found }) b'
 took_step rest found h = record { rest = let p = h.rest in omega (arith, p); found = h.found }
 
 -- Inversion of what follows.
-follow_done : {A B : Type 0} (o : Outcome A) (f : A → Counted B) (v : B) (b : Budget) → follow o f ≡ done v b → (a : A) × (b' : Budget) × (o ≡ done a b') × (f a b' ≡ done v b)
+pub follow_done : {A B : Type 0} (o : Outcome A) (f : A → Counted B) (v : B) (b : Budget) → follow o f ≡ done v b → (a : A) × (b' : Budget) × (o ≡ done a b') × (f a b' ≡ done v b)
 follow_done (done a b') f v b e = (a, b', refl, e)
 follow_done (stops s) f v b e = absurd (grind arith)
 
-done_value : {A : Type 0} {v w : A} {b b' : Budget} → done v b ≡ done w b' → v ≡ w
+pub done_value : {A : Type 0} {v w : A} {b b' : Budget} → done v b ≡ done w b' → v ≡ w
 done_value e = cc
 
-done_rest : {A : Type 0} {v w : A} {b b' : Budget} → done v b ≡ done w b' → b ≡ b'
+pub done_rest : {A : Type 0} {v w : A} {b b' : Budget} → done v b ≡ done w b' → b ≡ b'
 done_rest e = cc
 
-fitting_done : (t u : Tree) (b b' : Budget) → fitting t b ≡ done u b' → (is_small t ≡ true) × (t ≡ u) × (b ≡ b')
+pub fitting_done : (t u : Tree) (b b' : Budget) → fitting t b ≡ done u b' → (is_small t ≡ true) × (t ≡ u) × (b ≡ b')
 fitting_done t u b b' e = cases (is_small t) refl e
   where
     cases : (small : Bool) → is_small t ≡ small → (if small then give t else stop deep) b ≡ done u b' → (is_small t ≡ true) × (t ≡ u) × (b ≡ b')
@@ -45,11 +45,11 @@ fitting_done t u b b' e = cases (is_small t) refl e
     cases false s e = absurd (grind arith)
 
 -- Two in a row, of which the first is done.
-follow_twice : {A B C : Type 0} (o : Outcome A) (f : A → Counted B) (g : B → Counted C) (v : C) (b : Budget) → follow (follow o f) g ≡ done v b → (a : A) × (b' : Budget) × (o ≡ done a b') × (follow (f a b') g ≡ done v b)
+pub follow_twice : {A B C : Type 0} (o : Outcome A) (f : A → Counted B) (g : B → Counted C) (v : C) (b : Budget) → follow (follow o f) g ≡ done v b → (a : A) × (b' : Budget) × (o ≡ done a b') × (follow (f a b') g ≡ done v b)
 follow_twice (done a b') f g v b e = (a, b', refl, e)
 follow_twice (stops s) f g v b e = absurd (grind arith)
 
-max_le : (m n k : ℕ) → m ≤ k → n ≤ k → max m n ≤ k
+pub max_le : (m n k : ℕ) → m ≤ k → n ≤ k → max m n ≤ k
 max_le m n k p q = omega (arith, p, q)
 
 -- The present term reduces to the value, at the cost that was taken, with at most k calls open.

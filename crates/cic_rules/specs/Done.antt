@@ -295,3 +295,10 @@ mutual
         ((x y : Tree) → a ≢ prod x y) →
         Compares E G a b c →
         Below E G a b c
+
+-- Converted, and at most, with at most k calls open, at the cost that was taken.
+abbrev pub Converted : Environment → Context → ℕ → Tree → Tree → Budget → Budget → Type 0
+Converted E G k t u b b' = (c : Cost) × Converts E G t u c × (c.depth ≤ k) × Took c b b'
+
+abbrev pub Cumulated : Environment → Context → ℕ → Tree → Tree → Budget → Budget → Type 0
+Cumulated E G k t u b b' = (c : Cost) × Cumulates E G t u c × (c.depth ≤ k) × Took c b b'

@@ -12,8 +12,8 @@ ghost use Rattle.cic_rules.specs.Conversion.{Convertible, AtMost};
 ghost use Rattle.cic_rules.specs.Inductive.{PositiveBlock};
 ghost use Rattle.cic_rules.specs.Guard.{Guarded};
 ghost use Rattle.cic_rules.specs.Outcome.{Budget, done};
-ghost use Rattle.cic_rules.specs.Evaluation.{whnf_at};
-ghost use Rattle.cic_rules.specs.Done.{Evaluated};
+ghost use Rattle.cic_rules.specs.Evaluation.{conv_at, cumul_at, whnf_at};
+ghost use Rattle.cic_rules.specs.Done.{Converted, Cumulated, Evaluated};
 ghost use Rattle.cic_rules.specs.Typing.{Derivation, Eliminated};
 ghost use Rattle.cic_rules.specs.Examples.{bad_block, f_function, N, nat, with_N, zero_function};
 
@@ -71,4 +71,10 @@ pub fn functions_are_read_off()
 /// Where evaluation is done, the relation holds, at the cost that was taken.
 pub fn evaluation_has_its_cost()
     ensures { (E : Environment) (G : Context) (k : ℕ) (t v : Tree) (b b' : Budget) → whnf_at k E G t b ≡ done v b' → Evaluated E G k t v b b' }
+{}
+
+/// Where conversion and subtyping are done, the relations hold, at the cost that was taken.
+pub fn conversion_has_its_cost()
+    ensures conversion { (E : Environment) (k : ℕ) (G : Context) (t t' : Tree) (u : Unit {0}) (b b' : Budget) → conv_at k E G t t' b ≡ done u b' → Converted E G k t t' b b' }
+    ensures subtyping { (E : Environment) (k : ℕ) (G : Context) (t t' : Tree) (u : Unit {0}) (b b' : Budget) → cumul_at k E G t t' b ≡ done u b' → Cumulated E G k t t' b b' }
 {}
