@@ -4,3 +4,4 @@ pub mod Decided
 pub mod Functions
 pub mod Taken
 pub mod TakenConversion
+pub mod TakenTyping

@@ -16,10 +16,10 @@ use Rattle.cic_rules.proofs.Decided.{both, both_true}
 use Rattle.cic_rules.proofs.Taken.{took_free, took_then, follow_done, done_value, done_rest, fitting_done, max_le, whnf_done}
 
 -- Done at a cost in a relation, with at most k calls open.
-abbrev At : ℕ → (Cost → Type 0) → Budget → Budget → Type 0
+abbrev pub At : ℕ → (Cost → Type 0) → Budget → Budget → Type 0
 At k R b b' = (c : Cost) × R c × (c.depth ≤ k) × Took c b b'
 
-at_free : {k : ℕ} {R : Cost → Type 0} {A : Type 0} {u v : A} {b b' : Budget} → R free → done u b ≡ done v b' → At k R b b'
+pub at_free : {k : ℕ} {R : Cost → Type 0} {A : Type 0} {u v : A} {b b' : Budget} → R free → done u b ≡ done v b' → At k R b b'
 at_free {b = b} h e = (free, h, omega arith, subst (λ z. Took free b z) (done_rest e) (took_free b))
 
 took_note : (c : Constraint) (b : Budget) → Took (finds c) b (record { rest = b.rest; found = insert c b.found })
@@ -71,7 +71,7 @@ below_done G (typ e) (typ e') u b b' h = cases (same_atoms e e') refl h
     cases false q h = universes_done e e' u b b' q _ refl h
 below_done G s s' u b b' h = absurd (grind arith)
 
-fitting_all_done : (ts us : List Tree) (b b' : Budget) → fitting_all ts b ≡ done us b' → AllSmall ts × (ts ≡ us) × (b ≡ b')
+pub fitting_all_done : (ts us : List Tree) (b b' : Budget) → fitting_all ts b ≡ done us b' → AllSmall ts × (ts ≡ us) × (b ≡ b')
 fitting_all_done [] us b b' e = (tt, done_value e, done_rest e)
 fitting_all_done (t ∷ ts) us b b' e =
     let i = follow_done (fitting t b) (λ u. fitting_all ts >>= (λ us. give (u ∷ us))) us b' e in
@@ -80,7 +80,7 @@ fitting_all_done (t ∷ ts) us b b' e =
     let q = fitting_all_done ts j.0 i.1 j.1 j.2 in
     ((p.0, q.0), ap₂ ◌∷◌ p.1 q.1 ∙ done_value j.3, p.2 ∙ q.2 ∙ done_rest j.3)
 
-body_done : (all : ℕ) (f : Function) (t : Tree) (b b' : Budget) → fitting_body all f b ≡ done t b' → AllSmall (lift_domains 0 all f.domains) × (full_body all f ≡ t) × (b ≡ b')
+pub body_done : (all : ℕ) (f : Function) (t : Tree) (b b' : Budget) → fitting_body all f b ≡ done t b' → AllSmall (lift_domains 0 all f.domains) × (full_body all f ≡ t) × (b ≡ b')
 body_done all f t b b' e =
     let i = follow_done (fitting_all (lift_domains 0 all f.domains) b) (λ as_. give (abstractions as_ f.body)) t b' e in
     let p = fitting_all_done (lift_domains 0 all f.domains) i.0 b i.1 i.2 in
