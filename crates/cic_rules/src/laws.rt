@@ -14,6 +14,8 @@ ghost use Rattle.cic_rules.specs.Guard.{Guarded};
 ghost use Rattle.cic_rules.specs.Outcome.{Budget, done};
 ghost use Rattle.cic_rules.specs.Evaluation.{conv_at, cumul_at, whnf_at};
 ghost use Rattle.cic_rules.specs.Done.{Converted, Cumulated, Evaluated};
+ghost use Rattle.cic_rules.specs.DoneTyping.{Checked, Inferred, Sorted};
+ghost use Rattle.cic_rules.specs.Inference.{calls_at};
 ghost use Rattle.cic_rules.specs.Typing.{Derivation, Eliminated};
 ghost use Rattle.cic_rules.specs.Examples.{bad_block, f_function, N, nat, with_N, zero_function};
 
@@ -77,4 +79,11 @@ pub fn evaluation_has_its_cost()
 pub fn conversion_has_its_cost()
     ensures conversion { (E : Environment) (k : ℕ) (G : Context) (t t' : Tree) (u : Unit {0}) (b b' : Budget) → conv_at k E G t t' b ≡ done u b' → Converted E G k t t' b b' }
     ensures subtyping { (E : Environment) (k : ℕ) (G : Context) (t t' : Tree) (u : Unit {0}) (b b' : Budget) → cumul_at k E G t t' b ≡ done u b' → Cumulated E G k t t' b b' }
+{}
+
+/// Where inference, a check and the sort of a type are done, the relations hold, at the cost that was taken.
+pub fn typing_has_its_cost()
+    ensures inference { (E : Environment) (k : ℕ) (G : Context) (t T : Tree) (b b' : Budget) → (calls_at k E).infer G t b ≡ done T b' → Inferred E G k t T b b' }
+    ensures check { (E : Environment) (k : ℕ) (G : Context) (t T : Tree) (u : Unit {0}) (b b' : Budget) → (calls_at k E).check G t T b ≡ done u b' → Checked E G k t T b b' }
+    ensures sort { (E : Environment) (k : ℕ) (G : Context) (t : Tree) (s : TreeSort) (b b' : Budget) → (calls_at k E).sort_of G t b ≡ done s b' → Sorted E G k t s b b' }
 {}
