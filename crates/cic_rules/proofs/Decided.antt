@@ -14,11 +14,11 @@ use Rattle.cic_rules.specs.Sameness.{same_list, same_id, same_part, same_level_n
 differs : {X : Type 0} → false ≡ true → X
 differs e = absurd (grind arith)
 
-both : (a b : Bool) → (a && b) ≡ true → (a ≡ true) × (b ≡ true)
+pub both : (a b : Bool) → (a && b) ≡ true → (a ≡ true) × (b ≡ true)
 both true b e = (refl, e)
 both false b e = differs e
 
-both_true : (a b : Bool) → a ≡ true → b ≡ true → (a && b) ≡ true
+pub both_true : (a b : Bool) → a ≡ true → b ≡ true → (a && b) ≡ true
 both_true a b p q = rw (p, q) refl
 
 -- Lists.

@@ -1,18 +1,18 @@
 -- The counted functions of evaluation where they are done: with which answer, in how many steps, how many calls deep
 -- and with which constraints (this project's own). It says the same as the functions do, as rules, for
 -- proofs by induction on what is accepted.
-use Rattle.std.specs.Prelude.{ℕ, ◌+◌, ◌≡◌, ◌≢◌, max, true, false, nat_eq, Some, None, List, [], ◌∷◌, ◌++◌, length}
-use Rattle.cic_terms.specs.Tree.{TreeSort, prop, set, typ, Shape, Former, SortF, CaseF, FixF, LetF, over, Tree, rel, node, Children, no_child, child, sort, prod, lam, let_in, app, const, ind, ctor, case, fix}
+use Rattle.std.specs.Prelude.{ℕ, ◌+◌, ◌≡◌, ◌≢◌, ◌≤◌, max, true, false, nat_eq, Some, None, List, [], ◌∷◌, ◌++◌, length}
+use Rattle.cic_terms.specs.Tree.{TreeSort, prop, set, typ, Shape, Former, CaseF, FixF, LetF, over, Tree, rel, node, Children, no_child, child, sort, prod, lam, let_in, app, const, case}
 use Rattle.cic_terms.specs.Lift.{lift_tree, subst_tree}
 use Rattle.cic_terms.specs.declared.name.GlobalId.{GlobalId}
 use Rattle.cic_terms.specs.declared.level.Level.{Level}
 use Rattle.cic_terms.specs.declared.level.Atom.{Atom}
 use Rattle.cic_rules.specs.Sameness.{same_id, same_atoms, same_sort, same_shapes, same_former, same_tree}
-use Rattle.cic_rules.specs.Constraints.{Constraint}
+use Rattle.cic_rules.specs.Constraints.{Constraint, insert}
 use Rattle.cic_rules.specs.Numbering.{plain_level}
 use Rattle.cic_rules.specs.Environment.{Environment, Context, transparent_body, body_at, unknown, under_unknown}
 use Rattle.cic_rules.specs.Telescopes.{apply, head_of, arguments_of, lift_domains, Function, functions_of, function_types, full_body}
-use Rattle.cic_rules.specs.Outcome.{is_small}
+use Rattle.cic_rules.specs.Outcome.{Budget, is_small}
 use Rattle.cic_rules.specs.Evaluation.{is_constructor, unfolds, matched, same_places, value_first}
 
 -- What a call takes: its steps, the calls that are open at once, itself among them, and the constraints
@@ -39,19 +39,30 @@ stepped c = record { steps = c.steps + 1; depth = c.depth; found = c.found }
 abbrev pub finds : Constraint → Cost
 finds c = record { steps = 0; depth = 0; found = c ∷ [] }
 
+-- Constraints put into a set, one after the other.
+abbrev pub insert_all : List Constraint → List Constraint → List Constraint
+insert_all found [] = found
+insert_all found (c ∷ cs) = insert_all (insert c found) cs
+
+-- What a call that is done has taken.
+pub record Took (c : Cost) (b b' : Budget) : Type 0 where
+  pub rest : b.rest ≡ c.steps + b'.rest
+  pub found : b'.found ≡ insert_all b.found c.found
+
 -- Each of several terms is within the limits.
 abbrev pub AllSmall : List Tree → Type 0
 AllSmall [] = Unit {0}
 AllSmall (t ∷ ts) = (is_small t ≡ true) × AllSmall ts
 
--- Terms at which evaluation stops at once.
-pub data Stays : Tree → Type 0 where
-  stays_sort : {s : TreeSort} → Stays (sort s)
-  stays_product : {a b : Tree} → Stays (prod a b)
-  stays_abstraction : {a b : Tree} → Stays (lam a b)
-  stays_type : {c : GlobalId} → Stays (ind c)
-  stays_constructor : {c : GlobalId} → Stays (ctor c)
-  stays_fix : {which : ℕ} {shapes : List Shape} {parts : Children} → Stays (fix which shapes parts)
+-- Terms at which evaluation stops at once: all but variables, constants, local definitions, applications
+-- and matches.
+abbrev pub Stays : Tree → Type 0
+Stays (rel x) = ⊥
+Stays (const c) = ⊥
+Stays (let_in t a u) = ⊥
+Stays (app f u) = ⊥
+Stays (case id n p v branches) = ⊥
+Stays t = Unit {0}
 
 abbrev pub IsAbstraction : Tree → Type 0
 IsAbstraction (lam a b) = Unit {0}
@@ -133,6 +144,10 @@ mutual
         k ≡ (c then stepped d) →
         Reduces E G (case id n p t branches) v k
 
+-- Evaluated with at most k calls open, at the cost that was taken.
+abbrev pub Evaluated : Environment → Context → ℕ → Tree → Tree → Budget → Budget → Type 0
+Evaluated E G k t v b b' = (c : Cost) × Evaluates E G t v c × (c.depth ≤ k) × Took c b b'
+
 -- Two sorts are made equal, and one at most the other, by constraints.
 pub data SortsEqual : TreeSort → TreeSort → Cost → Type 0 where
   same_sorts : {s s' : TreeSort} →
@@ -173,7 +188,6 @@ pub data SortsBelow : TreeSort → TreeSort → Cost → Type 0 where
 
 -- The formers whose parts are compared in order.
 abbrev pub InOrder : Former → Type 0
-InOrder (SortF s) = ⊥
 InOrder (CaseF id) = ⊥
 InOrder (FixF which shapes) = ⊥
 InOrder LetF = ⊥
@@ -281,3 +295,10 @@ mutual
         ((x y : Tree) → a ≢ prod x y) →
         Compares E G a b c →
         Below E G a b c
+
+-- Converted, and at most, with at most k calls open, at the cost that was taken.
+abbrev pub Converted : Environment → Context → ℕ → Tree → Tree → Budget → Budget → Type 0
+Converted E G k t u b b' = (c : Cost) × Converts E G t u c × (c.depth ≤ k) × Took c b b'
+
+abbrev pub Cumulated : Environment → Context → ℕ → Tree → Tree → Budget → Budget → Type 0
+Cumulated E G k t u b b' = (c : Cost) × Cumulates E G t u c × (c.depth ≤ k) × Took c b b'

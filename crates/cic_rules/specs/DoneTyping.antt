@@ -1,6 +1,6 @@
 -- The counted functions of typing where they are done: with which answer, in how many steps, how many
 -- calls deep and with which constraints (this project's own).
-use Rattle.std.specs.Prelude.{ℕ, ◌+◌, ◌≡◌, true, false, ◌||◌, not, Some, None, List, [], ◌∷◌, ◌++◌, length, take, drop}
+use Rattle.std.specs.Prelude.{ℕ, ◌≤◌, ◌+◌, ◌≡◌, true, false, ◌||◌, not, Some, None, List, [], ◌∷◌, ◌++◌, length, take, drop}
 use Rattle.cic_terms.specs.Tree.{TreeSort, prop, set, typ, Shape, Binders, Tree, rel, Children, no_child, child, sort, prod, lam, let_in, app, const, ind, ctor, case, fix}
 use Rattle.cic_terms.specs.Lift.{lift_tree, subst_tree}
 use Rattle.cic_terms.specs.declared.name.GlobalId.{GlobalId}
@@ -11,12 +11,12 @@ use Rattle.cic_rules.specs.Sameness.{same_tree}
 use Rattle.cic_rules.specs.Numbering.{plain_level}
 use Rattle.cic_rules.specs.Environment.{Environment, Context, Arity, TypeInBlock, TypeDeclaration, ConstructorDeclaration, Constructor, constant_type, arity_of, whole_block, constructor_of, type_at, element, assumed, defined}
 use Rattle.cic_rules.specs.Telescopes.{apply, head_of, arguments_of, domains_of, conclusion_of, extend, substitute_all, variables, lift_all, lift_domains, instantiate, Function, functions_of, function_types, function_type, full_body}
-use Rattle.cic_rules.specs.Outcome.{is_small}
+use Rattle.cic_rules.specs.Outcome.{Budget, is_small}
 use Rattle.cic_rules.specs.BlockTests.{is_shaped, index_count}
 use Rattle.cic_rules.specs.GuardTest.{guard_fault}
 use Rattle.cic_rules.specs.Inference.{next_level, product_sort, are_branches, is_prop, ends_in_prop, branch_goal}
 use Rattle.cic_rules.specs.Typing.{function_entries}
-use Rattle.cic_rules.specs.Done.{Cost, free, ◌then◌, called, AllSmall, Evaluates, Cumulates}
+use Rattle.cic_rules.specs.Done.{Took, Cost, free, ◌then◌, called, AllSmall, Evaluates, Cumulates}
 
 -- The types of a Fix, lifted to stand under the functions before their own, are within the limits.
 abbrev pub SmallEntries : (before : ℕ) → List Tree → Type 0
@@ -205,3 +205,13 @@ mutual
         ChecksBodies E G all fs d →
         k ≡ (c then d) →
         ChecksBodies E G all (f ∷ fs) k
+
+-- Inferred, checked and sorted with at most k calls open, at the cost that was taken.
+abbrev pub Inferred : Environment → Context → ℕ → (term type : Tree) → Budget → Budget → Type 0
+Inferred E G k t T b b' = (c : Cost) × Infers E G t T c × (c.depth ≤ k) × Took c b b'
+
+abbrev pub Checked : Environment → Context → ℕ → (term type : Tree) → Budget → Budget → Type 0
+Checked E G k t T b b' = (c : Cost) × Checks E G t T c × (c.depth ≤ k) × Took c b b'
+
+abbrev pub Sorted : Environment → Context → ℕ → Tree → TreeSort → Budget → Budget → Type 0
+Sorted E G k t s b b' = (c : Cost) × SortOf E G t s c × (c.depth ≤ k) × Took c b b'

@@ -11,6 +11,11 @@ ghost use Rattle.cic_rules.specs.Step.{Step};
 ghost use Rattle.cic_rules.specs.Conversion.{Convertible, AtMost};
 ghost use Rattle.cic_rules.specs.Inductive.{PositiveBlock};
 ghost use Rattle.cic_rules.specs.Guard.{Guarded};
+ghost use Rattle.cic_rules.specs.Outcome.{Budget, done};
+ghost use Rattle.cic_rules.specs.Evaluation.{conv_at, cumul_at, whnf_at};
+ghost use Rattle.cic_rules.specs.Done.{Converted, Cumulated, Evaluated};
+ghost use Rattle.cic_rules.specs.DoneTyping.{Checked, Inferred, Sorted};
+ghost use Rattle.cic_rules.specs.Inference.{calls_at};
 ghost use Rattle.cic_rules.specs.Typing.{Derivation, Eliminated};
 ghost use Rattle.cic_rules.specs.Examples.{bad_block, f_function, N, nat, with_N, zero_function};
 
@@ -63,4 +68,22 @@ pub fn same_tree_is_equality()
 /// The functions of a fixpoint are those that its parts were made of.
 pub fn functions_are_read_off()
     ensures { (fs : List Function) → functions_of (function_shapes fs) (function_parts (length fs) fs) ≡ Some fs }
+{}
+
+/// Where evaluation is done, the relation holds, at the cost that was taken.
+pub fn evaluation_has_its_cost()
+    ensures { (E : Environment) (G : Context) (k : ℕ) (t v : Tree) (b b' : Budget) → whnf_at k E G t b ≡ done v b' → Evaluated E G k t v b b' }
+{}
+
+/// Where conversion and subtyping are done, the relations hold, at the cost that was taken.
+pub fn conversion_has_its_cost()
+    ensures conversion { (E : Environment) (k : ℕ) (G : Context) (t t' : Tree) (u : Unit {0}) (b b' : Budget) → conv_at k E G t t' b ≡ done u b' → Converted E G k t t' b b' }
+    ensures subtyping { (E : Environment) (k : ℕ) (G : Context) (t t' : Tree) (u : Unit {0}) (b b' : Budget) → cumul_at k E G t t' b ≡ done u b' → Cumulated E G k t t' b b' }
+{}
+
+/// Where inference, a check and the sort of a type are done, the relations hold, at the cost that was taken.
+pub fn typing_has_its_cost()
+    ensures inference { (E : Environment) (k : ℕ) (G : Context) (t T : Tree) (b b' : Budget) → (calls_at k E).infer G t b ≡ done T b' → Inferred E G k t T b b' }
+    ensures check { (E : Environment) (k : ℕ) (G : Context) (t T : Tree) (u : Unit {0}) (b b' : Budget) → (calls_at k E).check G t T b ≡ done u b' → Checked E G k t T b b' }
+    ensures sort { (E : Environment) (k : ℕ) (G : Context) (t : Tree) (s : TreeSort) (b b' : Budget) → (calls_at k E).sort_of G t b ≡ done s b' → Sorted E G k t s b b' }
 {}
