@@ -5,3 +5,4 @@ pub mod Functions
 pub mod Taken
 pub mod TakenConversion
 pub mod TakenTyping
+pub mod Keys
