@@ -6,3 +6,4 @@ pub mod Taken
 pub mod TakenConversion
 pub mod TakenTyping
 pub mod Keys
+pub mod Runs

@@ -1,4 +1,4 @@
-ghost use Rattle.std.specs.Prelude.{◌≡◌, ◌↔◌, ◌≢◌, ℕ, [], ◌∷◌, true, List, length, Option, Some};
+ghost use Rattle.std.specs.Prelude.{◌≡◌, ◌≤◌, ◌↔◌, ◌≢◌, ℕ, [], ◌∷◌, true, List, length, Option, Some};
 ghost use Rattle.cic_terms.specs.Tree.{TreeSort, prop, set, typ, Tree, sort, prod, const};
 ghost use Rattle.cic_terms.specs.declared.name.GlobalId.{GlobalId};
 ghost use Rattle.cic_terms.specs.declared.level.LevelName.{LevelName};
@@ -14,7 +14,7 @@ ghost use Rattle.cic_rules.specs.Inductive.{PositiveBlock};
 ghost use Rattle.cic_rules.specs.Guard.{Guarded};
 ghost use Rattle.cic_rules.specs.Outcome.{Budget, done};
 ghost use Rattle.cic_rules.specs.Evaluation.{conv_at, cumul_at, whnf_at};
-ghost use Rattle.cic_rules.specs.Done.{Converted, Cumulated, Evaluated};
+ghost use Rattle.cic_rules.specs.Done.{left_after, Converted, Cost, Cumulated, Evaluated, Evaluates};
 ghost use Rattle.cic_rules.specs.DoneTyping.{Checked, Inferred, Sorted};
 ghost use Rattle.cic_rules.specs.Inference.{calls_at};
 ghost use Rattle.cic_rules.specs.Typing.{Derivation, Eliminated};
@@ -92,4 +92,9 @@ pub fn typing_has_its_cost()
 /// A numbering meets a set with one more constraint where it meets the set and the constraint.
 pub fn insertion_keeps_all()
     ensures { (N : Numbering) (c : Constraint) (K : List Constraint) → MeetsAll N (insert c K) ↔ (Meets N c × MeetsAll N K) }
+{}
+
+/// Where the relation holds, evaluation is done at every budget and depth that suffice.
+pub fn evaluation_at_every_budget()
+    ensures { (E : Environment) (G : Context) (k : ℕ) (t v : Tree) (c : Cost) (b : Budget) → Evaluates E G t v c → c.depth ≤ k → c.steps ≤ b.rest → whnf_at k E G t b ≡ done v (left_after c b) }
 {}
