@@ -5,3 +5,5 @@ pub mod Functions
 pub mod Taken
 pub mod TakenConversion
 pub mod TakenTyping
+pub mod Keys
+pub mod Runs

@@ -9,7 +9,7 @@ use Rattle.cic_rules.specs.Outcome.{Budget, Outcome, done, stops, Counted, follo
 use Rattle.cic_rules.specs.Evaluation.{answer, again, variable_turn, constant_turn, recursive_turn, fix_turn, application_turn, match_turn, is_constructor, unfolds, matched, turn_of, goes_on, loop_of, whnf_at}
 use Rattle.cic_rules.specs.Done.{insert_all, Took, Evaluated, Cost, free, ◌then◌, called, stepped, IsAbstraction, Evaluates, Reduces, evaluates, stays, variable_stays, variable_steps, constant_stays, constant_steps, let_steps, function_applied, application_stays, recursion_stays, recursion_steps, match_stays, match_steps}
 
-insert_all-append : (found cs ds : List Constraint) → insert_all found (cs ++ ds) ≡ insert_all (insert_all found cs) ds
+pub insert_all-append : (found cs ds : List Constraint) → insert_all found (cs ++ ds) ≡ insert_all (insert_all found cs) ds
 insert_all-append found [] ds = refl
 insert_all-append found (c ∷ cs) ds = insert_all-append (insert c found) cs ds
 

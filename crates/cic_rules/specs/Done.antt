@@ -1,7 +1,7 @@
 -- The counted functions of evaluation where they are done: with which answer, in how many steps, how many calls deep
 -- and with which constraints (this project's own). It says the same as the functions do, as rules, for
 -- proofs by induction on what is accepted.
-use Rattle.std.specs.Prelude.{ℕ, ◌+◌, ◌≡◌, ◌≢◌, ◌≤◌, max, true, false, nat_eq, Some, None, List, [], ◌∷◌, ◌++◌, length}
+use Rattle.std.specs.Prelude.{ℕ, ◌-◌, ◌+◌, ◌≡◌, ◌≢◌, ◌≤◌, max, true, false, nat_eq, Some, None, List, [], ◌∷◌, ◌++◌, length}
 use Rattle.cic_terms.specs.Tree.{TreeSort, prop, set, typ, Shape, Former, CaseF, FixF, LetF, over, Tree, rel, node, Children, no_child, child, sort, prod, lam, let_in, app, const, case}
 use Rattle.cic_terms.specs.Lift.{lift_tree, subst_tree}
 use Rattle.cic_terms.specs.declared.name.GlobalId.{GlobalId}
@@ -48,6 +48,10 @@ insert_all found (c ∷ cs) = insert_all (insert c found) cs
 pub record Took (c : Cost) (b b' : Budget) : Type 0 where
   pub rest : b.rest ≡ c.steps + b'.rest
   pub found : b'.found ≡ insert_all b.found c.found
+
+-- What is left after a cost.
+abbrev pub left_after : Cost → Budget → Budget
+left_after c b = record { rest = b.rest - c.steps; found = insert_all b.found c.found }
 
 -- Each of several terms is within the limits.
 abbrev pub AllSmall : List Tree → Type 0

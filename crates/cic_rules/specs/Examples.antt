@@ -8,7 +8,8 @@ use Rattle.cic_terms.specs.declared.level.Level.TheVariants.{Named}
 use Rattle.cic_rules.specs.Constraints.{Constraint}
 use Rattle.cic_rules.specs.Environment.{Environment, Declaration, axiom_of, transparent, opaque, inductive, Block, TypeDeclaration, ConstructorDeclaration, declared}
 use Rattle.cic_rules.specs.Telescopes.{apply, Function, fixpoint}
-use Rattle.cic_rules.specs.Outcome.{refused, Cause}
+use Rattle.cic_rules.specs.Outcome.{Outcome, done, refused, Cause}
+use Rattle.cic_rules.specs.Evaluation.{whnf_from}
 use Rattle.cic_rules.specs.Checking.{Answer, accepts, rejects}
 
 -- An id of library A.
@@ -316,3 +317,47 @@ visible_of (rejects s) = []
 abbrev pub proofs_of : Answer → List Constraint
 proofs_of (accepts found) = found.proofs
 proofs_of (rejects s) = []
+
+-- Axiom f : P -> P. Axiom Q : (P -> P) -> Prop. Axiom q : Q (fun x : P => f x). Definition r : Q f := q.
+abbrev pub applied_f : Tree
+applied_f = lam P (app (const (id_of (codes "f"))) (rel 0))
+
+abbrev pub axiom_f : Declaration
+axiom_f = axiom_of (id_of (codes "f")) (prod P P)
+
+abbrev pub axiom_Q : Declaration
+axiom_Q = axiom_of (id_of (codes "Q")) (prod (prod P P) (sort prop))
+
+abbrev pub axiom_q : Declaration
+axiom_q = axiom_of (id_of (codes "q")) (app (const (id_of (codes "Q"))) applied_f)
+
+abbrev pub definition_r : Declaration
+definition_r = transparent (id_of (codes "r")) (app (const (id_of (codes "Q"))) (const (id_of (codes "f")))) (const (id_of (codes "q")))
+
+-- Definition b0 : bool := true. Definition b1 : bool := match b0 return bool with true => b0 | false => false end.
+-- Definition b2 and b3 the same, of b1 and b2.
+abbrev pub match_bool : Tree → Tree
+match_bool value =
+    case (id_of (codes "bool")) 0 bool value
+    (child (many 0) value (child (many 0) (ctor (id_of (codes "false"))) no_child))
+
+abbrev pub definition_b : List ℕ → Tree → Declaration
+definition_b name body = transparent (id_of name) bool body
+
+abbrev pub booleans : Environment
+booleans =
+    environment
+    (inductive bool_block
+    ∷ definition_b (codes "b0") (ctor (id_of (codes "true")))
+    ∷ definition_b (codes "b1") (match_bool (const (id_of (codes "b0"))))
+    ∷ definition_b (codes "b2") (match_bool (const (id_of (codes "b1"))))
+    ∷ definition_b (codes "b3") (match_bool (const (id_of (codes "b2"))))
+    ∷ [])
+
+-- The weak head normal form of a constant within so many steps.
+abbrev pub evaluated : List ℕ → (rest : ℕ) → Outcome Tree
+evaluated name rest = whnf_from 1 booleans [] (const (id_of name)) (record { rest = rest; found = [] })
+
+-- Done, with nothing left.
+abbrev pub spent_all : Tree → Outcome Tree
+spent_all t = done t (record { rest = 0; found = [] })

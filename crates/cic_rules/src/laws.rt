@@ -1,19 +1,20 @@
-ghost use Rattle.std.specs.Prelude.{◌≡◌, ◌↔◌, ◌≢◌, ℕ, [], ◌∷◌, true, List, length, Option, Some};
+ghost use Rattle.std.specs.Prelude.{◌≡◌, ◌≤◌, ◌↔◌, ◌≢◌, ℕ, [], ◌∷◌, true, List, length, Option, Some};
 ghost use Rattle.cic_terms.specs.Tree.{TreeSort, prop, set, typ, Tree, sort, prod, const};
 ghost use Rattle.cic_terms.specs.declared.name.GlobalId.{GlobalId};
 ghost use Rattle.cic_terms.specs.declared.level.LevelName.{LevelName};
 ghost use Rattle.cic_terms.specs.declared.level.Level.TheVariants as Level;
 ghost use Rattle.cic_rules.specs.Sameness.{same_tree};
-ghost use Rattle.cic_rules.specs.Numbering.{Numbering, IsNumbering, Meets, sort_number};
+ghost use Rattle.cic_rules.specs.Numbering.{Numbering, IsNumbering, Meets, MeetsAll, sort_number};
 ghost use Rattle.cic_rules.specs.Environment.{Environment, Context, TypeDeclaration, ConstructorDeclaration, opaque, declared};
 ghost use Rattle.cic_rules.specs.Telescopes.{Function, fixpoint, function_parts, function_shapes, functions_of, products};
+ghost use Rattle.cic_rules.specs.Constraints.{Constraint, insert};
 ghost use Rattle.cic_rules.specs.Step.{Step};
 ghost use Rattle.cic_rules.specs.Conversion.{Convertible, AtMost};
 ghost use Rattle.cic_rules.specs.Inductive.{PositiveBlock};
 ghost use Rattle.cic_rules.specs.Guard.{Guarded};
 ghost use Rattle.cic_rules.specs.Outcome.{Budget, done};
 ghost use Rattle.cic_rules.specs.Evaluation.{conv_at, cumul_at, whnf_at};
-ghost use Rattle.cic_rules.specs.Done.{Converted, Cumulated, Evaluated};
+ghost use Rattle.cic_rules.specs.Done.{left_after, Converted, Cost, Cumulated, Evaluated, Evaluates};
 ghost use Rattle.cic_rules.specs.DoneTyping.{Checked, Inferred, Sorted};
 ghost use Rattle.cic_rules.specs.Inference.{calls_at};
 ghost use Rattle.cic_rules.specs.Typing.{Derivation, Eliminated};
@@ -86,4 +87,14 @@ pub fn typing_has_its_cost()
     ensures inference { (E : Environment) (k : ℕ) (G : Context) (t T : Tree) (b b' : Budget) → (calls_at k E).infer G t b ≡ done T b' → Inferred E G k t T b b' }
     ensures check { (E : Environment) (k : ℕ) (G : Context) (t T : Tree) (u : Unit {0}) (b b' : Budget) → (calls_at k E).check G t T b ≡ done u b' → Checked E G k t T b b' }
     ensures sort { (E : Environment) (k : ℕ) (G : Context) (t : Tree) (s : TreeSort) (b b' : Budget) → (calls_at k E).sort_of G t b ≡ done s b' → Sorted E G k t s b b' }
+{}
+
+/// A numbering meets a set with one more constraint where it meets the set and the constraint.
+pub fn insertion_keeps_all()
+    ensures { (N : Numbering) (c : Constraint) (K : List Constraint) → MeetsAll N (insert c K) ↔ (Meets N c × MeetsAll N K) }
+{}
+
+/// Where the relation holds, evaluation is done at every budget and depth that suffice.
+pub fn evaluation_at_every_budget()
+    ensures { (E : Environment) (G : Context) (k : ℕ) (t v : Tree) (c : Cost) (b : Budget) → Evaluates E G t v c → c.depth ≤ k → c.steps ≤ b.rest → whnf_at k E G t b ≡ done v (left_after c b) }
 {}
