@@ -7,3 +7,4 @@ pub mod TakenConversion
 pub mod TakenTyping
 pub mod Keys
 pub mod Runs
+pub mod RunsConversion

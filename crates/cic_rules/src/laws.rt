@@ -14,7 +14,7 @@ ghost use Rattle.cic_rules.specs.Inductive.{PositiveBlock};
 ghost use Rattle.cic_rules.specs.Guard.{Guarded};
 ghost use Rattle.cic_rules.specs.Outcome.{Budget, done};
 ghost use Rattle.cic_rules.specs.Evaluation.{conv_at, cumul_at, whnf_at};
-ghost use Rattle.cic_rules.specs.Done.{left_after, Converted, Cost, Cumulated, Evaluated, Evaluates};
+ghost use Rattle.cic_rules.specs.Done.{left_after, Converted, Converts, Cost, Cumulated, Cumulates, Evaluated, Evaluates};
 ghost use Rattle.cic_rules.specs.DoneTyping.{Checked, Inferred, Sorted};
 ghost use Rattle.cic_rules.specs.Inference.{calls_at};
 ghost use Rattle.cic_rules.specs.Typing.{Derivation, Eliminated};
@@ -97,4 +97,10 @@ pub fn insertion_keeps_all()
 /// Where the relation holds, evaluation is done at every budget and depth that suffice.
 pub fn evaluation_at_every_budget()
     ensures { (E : Environment) (G : Context) (k : ℕ) (t v : Tree) (c : Cost) (b : Budget) → Evaluates E G t v c → c.depth ≤ k → c.steps ≤ b.rest → whnf_at k E G t b ≡ done v (left_after c b) }
+{}
+
+/// Where the relations hold, conversion and subtyping are done at every budget and depth that suffice.
+pub fn conversion_at_every_budget()
+    ensures conversion { (E : Environment) (G : Context) (k : ℕ) (t t' : Tree) (c : Cost) (b : Budget) → Converts E G t t' c → c.depth ≤ k → c.steps ≤ b.rest → conv_at k E G t t' b ≡ done tt (left_after c b) }
+    ensures subtyping { (E : Environment) (G : Context) (k : ℕ) (t t' : Tree) (c : Cost) (b : Budget) → Cumulates E G t t' c → c.depth ≤ k → c.steps ≤ b.rest → cumul_at k E G t t' b ≡ done tt (left_after c b) }
 {}
