@@ -8,3 +8,4 @@ pub mod TakenTyping
 pub mod Keys
 pub mod Runs
 pub mod RunsConversion
+pub mod RunsTyping

@@ -61,16 +61,16 @@ below_run G (set_below_universe {e = e}) = at_once (sorts_at_most G set (typ e))
 below_run G (same_universes {e = e} {e' = e'} h) = at_once (sorts_at_most G (typ e) (typ e')) (λ b. rw h refl)
 below_run G (levels_below {e = e} {e' = e'} m n q h) = λ b p. rw (n, q) (atoms_run m h b p)
 
-fitting_at : (t : Tree) (b : Budget) → is_small t ≡ true → fitting t b ≡ done t b
+pub fitting_at : (t : Tree) (b : Budget) → is_small t ≡ true → fitting t b ≡ done t b
 fitting_at t b h = rw h refl
 
-fitting_all_at : (ts : List Tree) (b : Budget) → AllSmall ts → fitting_all ts b ≡ done ts b
+pub fitting_all_at : (ts : List Tree) (b : Budget) → AllSmall ts → fitting_all ts b ≡ done ts b
 fitting_all_at [] b h = refl
 fitting_all_at (t ∷ ts) b h =
     ap (λ o. follow o (λ u. fitting_all ts >>= (λ us. give (u ∷ us)))) (fitting_at t b h.0)
     ∙ ap (λ o. follow o (λ us. give (t ∷ us))) (fitting_all_at ts b h.1)
 
-body_at : (all : ℕ) (f : Function) (b : Budget) → AllSmall (lift_domains 0 all f.domains) → fitting_body all f b ≡ done (full_body all f) b
+pub body_at : (all : ℕ) (f : Function) (b : Budget) → AllSmall (lift_domains 0 all f.domains) → fitting_body all f b ≡ done (full_body all f) b
 body_at all f b h = ap (λ o. follow o (λ as_. give (abstractions as_ f.body))) (fitting_all_at (lift_domains 0 all f.domains) b h)
 
 enter_unit : (m : Counted (Unit {0})) (c : Cost) → DoneAt m c → (rest : ℕ) (found : List Constraint) → c.steps + 1 ≤ rest → follow (tick (record { rest = rest; found = found })) (λ _. m) ≡ done tt (left_after (called c) (record { rest = rest; found = found }))
@@ -80,13 +80,13 @@ enter_unit m c h (suc r) found p =
     let e : r - c.steps ≡ suc r - (c.steps + 1) = omega arith in
     h (record { rest = r; found = found }) (omega (arith, p)) ∙ ap (λ z. done tt (made z (insert_all found c.found))) e
 
-max_left : (m n k : ℕ) → max m n ≤ k → m ≤ k
+pub max_left : (m n k : ℕ) → max m n ≤ k → m ≤ k
 max_left m n k h = omega (arith, h)
 
-max_right : (m n k : ℕ) → max m n ≤ k → n ≤ k
+pub max_right : (m n k : ℕ) → max m n ≤ k → n ≤ k
 max_right m n k h = omega (arith, h)
 
-along : {c d : Cost} (P : Cost → Type 0) → c ≡ d → P d → P c
+pub along : {c d : Cost} (P : Cost → Type 0) → c ≡ d → P d → P c
 along P e h = subst P (sym e) h
 
 -- Two terms that are evaluated, and then what is done with their weak head forms.
