@@ -7,3 +7,5 @@ pub mod TakenConversion
 pub mod TakenTyping
 pub mod Keys
 pub mod Runs
+pub mod RunsConversion
+pub mod RunsTyping

@@ -14,8 +14,8 @@ ghost use Rattle.cic_rules.specs.Inductive.{PositiveBlock};
 ghost use Rattle.cic_rules.specs.Guard.{Guarded};
 ghost use Rattle.cic_rules.specs.Outcome.{Budget, done};
 ghost use Rattle.cic_rules.specs.Evaluation.{conv_at, cumul_at, whnf_at};
-ghost use Rattle.cic_rules.specs.Done.{left_after, Converted, Cost, Cumulated, Evaluated, Evaluates};
-ghost use Rattle.cic_rules.specs.DoneTyping.{Checked, Inferred, Sorted};
+ghost use Rattle.cic_rules.specs.Done.{left_after, Converted, Converts, Cost, Cumulated, Cumulates, Evaluated, Evaluates};
+ghost use Rattle.cic_rules.specs.DoneTyping.{Checked, Checks, Inferred, Infers, SortOf, Sorted};
 ghost use Rattle.cic_rules.specs.Inference.{calls_at};
 ghost use Rattle.cic_rules.specs.Typing.{Derivation, Eliminated};
 ghost use Rattle.cic_rules.specs.Examples.{bad_block, f_function, N, nat, with_N, zero_function};
@@ -97,4 +97,18 @@ pub fn insertion_keeps_all()
 /// Where the relation holds, evaluation is done at every budget and depth that suffice.
 pub fn evaluation_at_every_budget()
     ensures { (E : Environment) (G : Context) (k : ℕ) (t v : Tree) (c : Cost) (b : Budget) → Evaluates E G t v c → c.depth ≤ k → c.steps ≤ b.rest → whnf_at k E G t b ≡ done v (left_after c b) }
+{}
+
+/// Where the relations hold, conversion and subtyping are done at every budget and depth that suffice.
+pub fn conversion_at_every_budget()
+    ensures conversion { (E : Environment) (G : Context) (k : ℕ) (t t' : Tree) (c : Cost) (b : Budget) → Converts E G t t' c → c.depth ≤ k → c.steps ≤ b.rest → conv_at k E G t t' b ≡ done tt (left_after c b) }
+    ensures subtyping { (E : Environment) (G : Context) (k : ℕ) (t t' : Tree) (c : Cost) (b : Budget) → Cumulates E G t t' c → c.depth ≤ k → c.steps ≤ b.rest → cumul_at k E G t t' b ≡ done tt (left_after c b) }
+{}
+
+/// Where the relations hold, inference, checks and the sort of a type are done at every budget and depth
+/// that suffice.
+pub fn typing_at_every_budget()
+    ensures inference { (E : Environment) (G : Context) (k : ℕ) (t T : Tree) (c : Cost) (b : Budget) → Infers E G t T c → c.depth ≤ k → c.steps ≤ b.rest → (calls_at k E).infer G t b ≡ done T (left_after c b) }
+    ensures check { (E : Environment) (G : Context) (k : ℕ) (t T : Tree) (c : Cost) (b : Budget) → Checks E G t T c → c.depth ≤ k → c.steps ≤ b.rest → (calls_at k E).check G t T b ≡ done tt (left_after c b) }
+    ensures sort { (E : Environment) (G : Context) (k : ℕ) (t : Tree) (s : TreeSort) (c : Cost) (b : Budget) → SortOf E G t s c → c.depth ≤ k → c.steps ≤ b.rest → (calls_at k E).sort_of G t b ≡ done s (left_after c b) }
 {}
