@@ -1,10 +1,8 @@
 -- What the answers of the program's checks stand for.
-use Rattle.std.specs.Prelude.{◌≡◌, map}
+use Rattle.std.specs.Prelude.{◌≡◌}
 use Rattle.cic_terms.specs.Denotes.{tree, tree_sort}
 use Rattle.cic_rules.specs.Outcome as O
 use Rattle.cic_rules.specs.Checking as C
-use Rattle.cic_rules.specs.Constraints as K
-use Rattle.cic_terms.specs.declared.constraint.Constraint.{Constraint}
 use Rattle.cic_env.specs.declared.verdict.Missing.{Missing}
 use Rattle.cic_env.specs.declared.verdict.Missing.TheVariants.{Global, Local}
 use Rattle.cic_env.specs.declared.verdict.Cause.{Cause}
@@ -31,13 +29,10 @@ cause_of (V.NotPositive ctor argument) = O.not_positive ctor argument
 cause_of (V.BadArity ind) = O.bad_arity ind
 cause_of (V.BadConstructor ctor) = O.bad_constructor ctor
 
-abbrev pub constraint_of : Constraint → K.Constraint
-constraint_of c = record { left = c.left; strict = c.strict; right = c.right }
-
 abbrev pub found_of : Found → C.Found
 found_of found = record {
-  visible = map constraint_of found.visible;
-  proofs = map constraint_of found.proofs;
+  visible = found.visible;
+  proofs = found.proofs;
   steps = found.steps;
 }
 

@@ -1,2 +1,11 @@
 pub mod NotVoid
 pub mod ByHand
+pub mod Decided
+pub mod Functions
+pub mod Taken
+pub mod TakenConversion
+pub mod TakenTyping
+pub mod Keys
+pub mod Runs
+pub mod RunsConversion
+pub mod RunsTyping

@@ -3,7 +3,7 @@
 -- "Conversion rules"). Each is one step over the calls one deeper; only the functions named `.._at`
 -- recurse, on what is left of the depth.
 use Rattle.std.specs.Prelude.{ℕ, zero, suc, ◌+◌, ◌-◌, Bool, true, false, ◌&&◌, nat_eq, if◌then◌else◌, Option, Some, None, option_and_then, List, [], ◌∷◌, length, drop}
-use Rattle.cic_terms.specs.Tree.{TreeSort, prop, set, typ, Former, SortF, LetF, CaseF, FixF, over, Tree, rel, node, Children, no_child, child, sort, prod, lam, let_in, app, const, ctor, case, fix}
+use Rattle.cic_terms.specs.Tree.{TreeSort, prop, set, typ, Former, LetF, CaseF, FixF, over, Tree, rel, node, Children, no_child, child, sort, prod, lam, let_in, app, const, ctor, case, fix}
 use Rattle.cic_terms.specs.Lift.{lift_tree, subst_tree}
 use Rattle.cic_terms.specs.declared.name.GlobalId.{GlobalId}
 use Rattle.cic_terms.specs.declared.level.Level.{Level}
@@ -205,10 +205,9 @@ abbrev pub value_first : Children → Children
 value_first (child b p (child c v branches)) = child c v (child b p branches)
 value_first ks = ks
 
--- Two nodes: sorts by their levels, matches by value, motive and branches, Fixes by their functions,
+-- Two nodes: matches by value, motive and branches, Fixes by their functions,
 -- and all others with the same former by their parts in order.
 abbrev pub compare_nodes : (Context → Tree → Tree → Counted (Unit {0})) → Context → Former → Former → Children → Children → Counted (Unit {0})
-compare_nodes conv G (SortF s) (SortF s') ks ls = equal_sorts G s s'
 compare_nodes conv G (CaseF c) (CaseF d) ks ls =
     if same_id c d && same_places ks ls
     then convert_children conv G (value_first ks) (value_first ls)
@@ -225,6 +224,7 @@ compare_nodes conv G f g ks ls =
 
 -- Two terms in weak head form.
 abbrev pub compare : (Context → Tree → Tree → Counted (Unit {0})) → Context → Tree → Tree → Counted (Unit {0})
+compare conv G (sort s) (sort s') = equal_sorts G s s'
 compare conv G (rel x) (rel y) = if nat_eq x y then give tt else differ G (rel x) (rel y)
 compare conv G (node f ks) (node g ls) = compare_nodes conv G f g ks ls
 compare conv G a b = differ G a b

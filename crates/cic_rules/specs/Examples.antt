@@ -2,12 +2,14 @@
 use Rattle.std.specs.Prelude.{ℕ, Bool, true, false, Some, List, [], ◌∷◌, codes}
 use Rattle.cic_terms.specs.Tree.{prop, set, typ, many, Tree, rel, no_child, child, sort, prod, lam, app, const, ind, ctor, case}
 use Rattle.cic_terms.specs.declared.name.GlobalId.{GlobalId}
-use Rattle.cic_terms.specs.declared.level.Part.TheVariants.{Visible}
+use Rattle.cic_terms.specs.declared.level.Part.TheVariants.{Declared, Visible}
 use Rattle.cic_terms.specs.declared.level.Level.{Level}
 use Rattle.cic_terms.specs.declared.level.Level.TheVariants.{Named}
+use Rattle.cic_rules.specs.Constraints.{Constraint}
 use Rattle.cic_rules.specs.Environment.{Environment, Declaration, axiom_of, transparent, opaque, inductive, Block, TypeDeclaration, ConstructorDeclaration, declared}
 use Rattle.cic_rules.specs.Telescopes.{apply, Function, fixpoint}
-use Rattle.cic_rules.specs.Outcome.{refused, Cause}
+use Rattle.cic_rules.specs.Outcome.{Outcome, done, refused, Cause}
+use Rattle.cic_rules.specs.Evaluation.{whnf_from}
 use Rattle.cic_rules.specs.Checking.{Answer, accepts, rejects}
 
 -- An id of library A.
@@ -285,3 +287,77 @@ zero_function = record {
 
 abbrev pub with_N : Environment
 with_N = environment (inductive nat_block ∷ inductive eq_block ∷ definition_N ∷ [])
+
+-- Universes u v. Axiom F : Type@{v} -> Prop. Theorem a : Prop. Proof F Type@{u}.
+abbrev pub level : List ℕ → Level
+level name = Named (record { lib = codes "A"; owner = name; part = Declared; number = 0 })
+
+abbrev pub universe : List ℕ → Tree
+universe name = sort (typ (record { level = level name; plus = false } ∷ []))
+
+abbrev pub axiom_F : Declaration
+axiom_F = axiom_of (id_of (codes "F")) (prod (universe (codes "v")) (sort prop))
+
+abbrev pub theorem_a : Declaration
+theorem_a = opaque (id_of (codes "a")) (sort prop) (Some (app (const (id_of (codes "F"))) (universe (codes "u"))))
+
+-- Definition x : Type@{u} := Type@{u}.
+abbrev pub definition_x : Declaration
+definition_x = transparent (id_of (codes "x")) (universe (codes "u")) (universe (codes "u"))
+
+-- u < v, and u < u.
+abbrev pub below : List ℕ → List ℕ → Constraint
+below left right = record { left = level left; strict = true; right = level right }
+
+-- The constraints of an accepted declaration.
+abbrev pub visible_of : Answer → List Constraint
+visible_of (accepts found) = found.visible
+visible_of (rejects s) = []
+
+abbrev pub proofs_of : Answer → List Constraint
+proofs_of (accepts found) = found.proofs
+proofs_of (rejects s) = []
+
+-- Axiom f : P -> P. Axiom Q : (P -> P) -> Prop. Axiom q : Q (fun x : P => f x). Definition r : Q f := q.
+abbrev pub applied_f : Tree
+applied_f = lam P (app (const (id_of (codes "f"))) (rel 0))
+
+abbrev pub axiom_f : Declaration
+axiom_f = axiom_of (id_of (codes "f")) (prod P P)
+
+abbrev pub axiom_Q : Declaration
+axiom_Q = axiom_of (id_of (codes "Q")) (prod (prod P P) (sort prop))
+
+abbrev pub axiom_q : Declaration
+axiom_q = axiom_of (id_of (codes "q")) (app (const (id_of (codes "Q"))) applied_f)
+
+abbrev pub definition_r : Declaration
+definition_r = transparent (id_of (codes "r")) (app (const (id_of (codes "Q"))) (const (id_of (codes "f")))) (const (id_of (codes "q")))
+
+-- Definition b0 : bool := true. Definition b1 : bool := match b0 return bool with true => b0 | false => false end.
+-- Definition b2 and b3 the same, of b1 and b2.
+abbrev pub match_bool : Tree → Tree
+match_bool value =
+    case (id_of (codes "bool")) 0 bool value
+    (child (many 0) value (child (many 0) (ctor (id_of (codes "false"))) no_child))
+
+abbrev pub definition_b : List ℕ → Tree → Declaration
+definition_b name body = transparent (id_of name) bool body
+
+abbrev pub booleans : Environment
+booleans =
+    environment
+    (inductive bool_block
+    ∷ definition_b (codes "b0") (ctor (id_of (codes "true")))
+    ∷ definition_b (codes "b1") (match_bool (const (id_of (codes "b0"))))
+    ∷ definition_b (codes "b2") (match_bool (const (id_of (codes "b1"))))
+    ∷ definition_b (codes "b3") (match_bool (const (id_of (codes "b2"))))
+    ∷ [])
+
+-- The weak head normal form of a constant within so many steps.
+abbrev pub evaluated : List ℕ → (rest : ℕ) → Outcome Tree
+evaluated name rest = whnf_from 1 booleans [] (const (id_of name)) (record { rest = rest; found = [] })
+
+-- Done, with nothing left.
+abbrev pub spent_all : Tree → Outcome Tree
+spent_all t = done t (record { rest = 0; found = [] })

@@ -14,5 +14,7 @@ pub mod GuardTest
 pub mod Typing
 pub mod Formed
 pub mod Inference
+pub mod Done
+pub mod DoneTyping
 pub mod Checking
 pub mod Examples

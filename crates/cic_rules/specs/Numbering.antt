@@ -6,7 +6,7 @@ use Rattle.cic_terms.specs.declared.level.Level.{Level}
 use Rattle.cic_terms.specs.declared.level.Level.TheVariants.{Set, Named}
 use Rattle.cic_terms.specs.declared.level.Atom.{Atom}
 use Rattle.cic_rules.specs.Sameness.{same_level_name}
-use Rattle.cic_rules.specs.Constraints.{Constraint, level_bytes, below, compare_bytes}
+use Rattle.cic_rules.specs.Constraints.{Constraint, level_key, below, compare_keys}
 
 -- A named level with its number.
 pub record Numbered : Type 0 where
@@ -74,7 +74,7 @@ pub record Consistent (K : List Constraint) : Type 0 where
 
 -- A cycle of constraints (this project's own): each begins at the level where the one before ends, the
 -- first where the last ends; one is strict; no level is a left end twice; and it begins at its least
--- level by byte strings. No numbering meets a cycle.
+-- level by their keys. No numbering meets a cycle.
 abbrev pub Chain : (from : Level) → List Constraint → (to : Level) → Type 0
 Chain from [] to = from ≡ to
 Chain from (c ∷ cs) to = (c.left ≡ from) × Chain c.right cs to
@@ -89,7 +89,7 @@ DistinctLefts (c ∷ cs) = LeftOfNone c.left cs × DistinctLefts cs
 
 abbrev pub NoneBelow : Level → List Constraint → Type 0
 NoneBelow l [] = Unit {0}
-NoneBelow l (c ∷ cs) = (compare_bytes (level_bytes c.left) (level_bytes l) ≢ below) × NoneBelow l cs
+NoneBelow l (c ∷ cs) = (compare_keys (level_key c.left) (level_key l) ≢ below) × NoneBelow l cs
 
 pub record IsCycle (cycle : List Constraint) : Type 0 where
   pub start : Level

@@ -1,14 +1,14 @@
-#![tactic(auto, unfolding(crate::specs::Checking::check_declaration, crate::specs::Inference::calls_from, crate::specs::Inference::calls_at, crate::specs::Evaluation::whnf_at, crate::specs::Evaluation::cumul_at, crate::specs::Evaluation::conv_at))]
+#![tactic(auto, unfolding(crate::specs::Checking::check_declaration, crate::specs::Evaluation::whnf_from, crate::specs::Inference::calls_from, crate::specs::Inference::calls_at, crate::specs::Evaluation::whnf_at, crate::specs::Evaluation::cumul_at, crate::specs::Evaluation::conv_at))]
 
 ghost use Rattle.std.specs.Prelude.{◌≡◌, ℕ, [], ◌∷◌, true, None, Some, codes};
-ghost use Rattle.cic_terms.specs.Tree.{set, typ, ctor, ind, sort};
+ghost use Rattle.cic_terms.specs.Tree.{set, typ, const, ctor, ind, sort};
 ghost use Rattle.cic_terms.specs.declared.level.Level.TheVariants as Level;
 ghost use Rattle.cic_rules.specs.Environment.{inductive};
-ghost use Rattle.cic_rules.specs.Outcome.{spent, unguarded, not_positive, bad_elimination, mismatch};
+ghost use Rattle.cic_rules.specs.Outcome.{stops, spent, unguarded, not_positive, bad_elimination, mismatch};
 ghost use Rattle.cic_rules.specs.GuardTest.{guard_fault};
 ghost use Rattle.cic_rules.specs.BlockTests.{positivity_fault};
 ghost use Rattle.cic_rules.specs.Checking.{check_declaration, rejects};
-ghost use Rattle.cic_rules.specs.Examples.{accepted_in, is_accepted, refuses, id_of, environment, axiom_P, definition_Q, definition_R, definition_Id, definition_t, nat_block, eq_block, definition_plus, definition_two, theorem_plus_n_O, arithmetic, plus_function, f_function, definition_f, g_function, definition_g, bool_block, even_function, odd_function, definition_even, forest_block, bad_block, box_block, two_block, definition_d, definition_e, true_block, false_block, theorem_bad};
+ghost use Rattle.cic_rules.specs.Examples.{accepted_in, is_accepted, refuses, id_of, environment, axiom_P, definition_Q, definition_R, definition_Id, definition_t, nat_block, eq_block, definition_plus, definition_two, theorem_plus_n_O, arithmetic, plus_function, f_function, definition_f, g_function, definition_g, bool_block, even_function, odd_function, definition_even, forest_block, bad_block, box_block, two_block, definition_d, definition_e, true_block, false_block, theorem_bad, axiom_F, theorem_a, definition_x, below, visible_of, proofs_of, applied_f, axiom_f, axiom_Q, axiom_q, definition_r, evaluated, spent_all};
 
 /// The steps of small checks, and a budget that is one step too small.
 pub fn steps_of_checks()
@@ -54,4 +54,29 @@ pub fn fixpoints()
 pub fn theorems()
     ensures by_evaluation { is_accepted (check_declaration arithmetic definition_two 1000) ≡ true }
     ensures by_induction { is_accepted (check_declaration arithmetic theorem_plus_n_O 10000) ≡ true }
+{}
+
+/// The constraints that are found: of an opaque body apart, and all others visible.
+pub fn constraints()
+    ensures accepted { is_accepted (check_declaration (environment (axiom_F ∷ [])) theorem_a 1000) ≡ true }
+    ensures proof { proofs_of (check_declaration (environment (axiom_F ∷ [])) theorem_a 1000) ≡ below (codes "u") (codes "v") ∷ [] }
+    ensures statement { visible_of (check_declaration (environment (axiom_F ∷ [])) theorem_a 1000) ≡ [] }
+    ensures definition { visible_of (check_declaration [] definition_x 1000) ≡ below (codes "u") (codes "u") ∷ [] }
+{}
+
+/// The steps of axioms about functions, and a conversion that would need eta for functions.
+pub fn functions()
+    ensures arrow { check_declaration (environment (axiom_P ∷ [])) axiom_f 100 ≡ accepted_in 9 }
+    ensures on_functions { check_declaration (environment (axiom_P ∷ axiom_f ∷ [])) axiom_Q 100 ≡ accepted_in 15 }
+    ensures application { check_declaration (environment (axiom_P ∷ axiom_f ∷ axiom_Q ∷ [])) axiom_q 100 ≡ accepted_in 17 }
+    ensures without_eta { check_declaration (environment (axiom_P ∷ axiom_f ∷ axiom_Q ∷ axiom_q ∷ [])) definition_r 100 ≡ refuses (mismatch 0 applied_f (const (id_of (codes "f")))) }
+{}
+
+/// Matches that double the work: from the constant number i on the loop takes 4 * 2 ^ i - 3 steps.
+pub fn doubling_matches()
+    ensures none { evaluated (codes "b0") 2 ≡ spent_all (ctor (id_of (codes "true"))) }
+    ensures one { evaluated (codes "b1") 6 ≡ spent_all (ctor (id_of (codes "true"))) }
+    ensures two { evaluated (codes "b2") 14 ≡ spent_all (ctor (id_of (codes "true"))) }
+    ensures three { evaluated (codes "b3") 30 ≡ spent_all (ctor (id_of (codes "true"))) }
+    ensures too_few { evaluated (codes "b3") 29 ≡ stops spent }
 {}
