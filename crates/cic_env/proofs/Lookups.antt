@@ -48,23 +48,23 @@ pub place-found : (n p : ℕ) (decls : List Decl) (id : GlobalId) (other : Decl)
 place-found n p [] id other h = cc
 place-found n p (Axiom first ty ∷ decls) id other h =
     elim (same_id first id) as (λ b. first_or b n (place_from (n + 1) decls id) ≡ Some p →
-        (n ≤ p) × (p - n < length (Axiom first ty ∷ decls))
-        × (or_else (if b then Some (constant (tree ty) None) else None) (meaning (environment decls) id) ≡ Some (decl_meaning (slice_index_or (Axiom first ty ∷ decls) (p - n) other)))) [
-      true ↦ λ e. let q : n ≡ p = cc in let z : n - n ≡ 0 = omega arith in
-        subst (λ k. (n ≤ k) × (k - n < length (Axiom first ty ∷ decls))
-            × (Some (constant (tree ty) None) ≡ Some (decl_meaning (slice_index_or (Axiom first ty ∷ decls) (k - n) other)))) q
-        (omega arith, omega arith, rw z refl)
-    | false ↦ λ e. let ih = place-found (n + 1) p decls id other e in let z : p - n ≡ suc (p - (n + 1)) = omega (arith, ih.0) in
-        (omega (arith, ih.0), omega (arith, ih.0, ih.1), rw z ih.2)
+    (n ≤ p) × (p - n < length (Axiom first ty ∷ decls))
+    × (or_else (if b then Some (constant (tree ty) None) else None) (meaning (environment decls) id) ≡ Some (decl_meaning (slice_index_or (Axiom first ty ∷ decls) (p - n) other)))) [
+      | true ↦ λ e. let q : n ≡ p = cc in let z : n - n ≡ 0 = omega arith in
+          subst (λ k. (n ≤ k) × (k - n < length (Axiom first ty ∷ decls))
+          × (Some (constant (tree ty) None) ≡ Some (decl_meaning (slice_index_or (Axiom first ty ∷ decls) (k - n) other)))) q
+          (omega arith, omega arith, rw z refl)
+      | false ↦ λ e. let ih = place-found (n + 1) p decls id other e in let z : p - n ≡ suc (p - (n + 1)) = omega (arith, ih.0) in
+          (omega (arith, ih.0), omega (arith, ih.0, ih.1), rw z ih.2)
     ] h
 
 pub place-absent : (n : ℕ) (decls : List Decl) (id : GlobalId) → place_from n decls id ≡ None → meaning (environment decls) id ≡ None
 place-absent n [] id h = refl
 place-absent n (Axiom first ty ∷ decls) id h =
     elim (same_id first id) as (λ b. first_or b n (place_from (n + 1) decls id) ≡ None →
-        or_else (if b then Some (constant (tree ty) None) else None) (meaning (environment decls) id) ≡ None) [
-      true ↦ λ e. cc
-    | false ↦ λ e. place-absent (n + 1) decls id e
+    or_else (if b then Some (constant (tree ty) None) else None) (meaning (environment decls) id) ≡ None) [
+      | true ↦ λ e. cc
+      | false ↦ λ e. place-absent (n + 1) decls id e
     ] h
 
 true-false : true ≡ false → ⊥
@@ -83,8 +83,8 @@ absent-undeclared n [] id h has = omega (arith, has.1)
 absent-undeclared n (Axiom first ty ∷ decls) id h has =
     let facts = first_or-none (same_id first id) n (place_from (n + 1) decls id) h in
     elim (Contains-append_cases (first ∷ []) (environment_ids (environment decls)) id has) [
-      inl here ↦ let e : same_id first id ≡ true = subst (λ k. same_id first k ≡ true) (Contains-one first id here) (same_id-refl first) in cc
-    | inr there ↦ absent-undeclared (n + 1) decls id facts.1 there
+      | inl here ↦ let e : same_id first id ≡ true = subst (λ k. same_id first k ≡ true) (Contains-one first id here) (same_id-refl first) in cc
+      | inr there ↦ absent-undeclared (n + 1) decls id facts.1 there
     ]
 
 pub found-declared : (n p : ℕ) (decls : List Decl) (id : GlobalId) → place_from n decls id ≡ Some p →
@@ -92,9 +92,9 @@ pub found-declared : (n p : ℕ) (decls : List Decl) (id : GlobalId) → place_f
 found-declared n p [] id h = cc
 found-declared n p (Axiom first ty ∷ decls) id h =
     elim (same_id first id) as (λ b. same_id first id ≡ b → first_or b n (place_from (n + 1) decls id) ≡ Some p →
-        Contains (environment_ids (environment (Axiom first ty ∷ decls))) id) [
-      true ↦ λ q e. (0, omega arith, same_id-true first id q)
-    | false ↦ λ q e. let ih = found-declared (n + 1) p decls id e in (suc ih.0, omega (arith, ih.1), ih.2)
+    Contains (environment_ids (environment (Axiom first ty ∷ decls))) id) [
+      | true ↦ λ q e. (0, omega arith, same_id-true first id q)
+      | false ↦ λ q e. let ih = found-declared (n + 1) p decls id e in (suc ih.0, omega (arith, ih.1), ih.2)
     ] refl h
 
 -- The places after one more declaration, whose id is new.
@@ -107,15 +107,15 @@ place-append n (first ∷ decls) decl id h =
     let ih = place-append (n + 1) decls decl id facts.1 in
     let z : n + suc (length decls) ≡ n + 1 + length decls = omega arith in
     elim (same_id (decl_id first) id) as (λ b. same_id (decl_id first) id ≡ b →
-        first_or b n (place_from (n + 1) (decls ++ decl ∷ []) id)
-        ≡ (if same_id (decl_id decl) id then Some (n + suc (length decls)) else first_or b n (place_from (n + 1) decls id))) [
-      true ↦ λ q. elim (same_id (decl_id decl) id) as (λ b. same_id (decl_id decl) id ≡ b → Some n ≡ (if b then Some (n + suc (length decls)) else Some n)) [
-          true ↦ λ r. let e : same_id (decl_id first) (decl_id decl) ≡ true =
-                subst (λ k. same_id (decl_id first) k ≡ true) (same_id-true (decl_id first) id q ∙ sym (same_id-true (decl_id decl) id r)) (same_id-refl (decl_id first)) in
-              absurd (true-false (sym e ∙ facts.0))
+    first_or b n (place_from (n + 1) (decls ++ decl ∷ []) id)
+    ≡ (if same_id (decl_id decl) id then Some (n + suc (length decls)) else first_or b n (place_from (n + 1) decls id))) [
+      | true ↦ λ q. elim (same_id (decl_id decl) id) as (λ b. same_id (decl_id decl) id ≡ b → Some n ≡ (if b then Some (n + suc (length decls)) else Some n)) [
+        | true ↦ λ r. let e : same_id (decl_id first) (decl_id decl) ≡ true =
+            subst (λ k. same_id (decl_id first) k ≡ true) (same_id-true (decl_id first) id q ∙ sym (same_id-true (decl_id decl) id r)) (same_id-refl (decl_id first)) in
+            absurd (true-false (sym e ∙ facts.0))
         | false ↦ λ r. refl
-        ] refl
-    | false ↦ λ q. rw z ih
+      ] refl
+      | false ↦ λ q. rw z ih
     ] refl
 
 -- Whether an id is declared, by its place.
@@ -129,8 +129,8 @@ pub place-within : (n p : ℕ) (decls : List Decl) (id : GlobalId) → place_fro
 place-within n p [] id h = cc
 place-within n p (first ∷ decls) id h =
     elim (same_id (decl_id first) id) as (λ b. first_or b n (place_from (n + 1) decls id) ≡ Some p → (n ≤ p) × (p - n < length (first ∷ decls))) [
-      true ↦ λ e. let q : n ≡ p = cc in subst (λ k. (n ≤ k) × (k - n < length (first ∷ decls))) q (omega arith, omega arith)
-    | false ↦ λ e. let ih = place-within (n + 1) p decls id e in (omega (arith, ih.0), omega (arith, ih.0, ih.1))
+      | true ↦ λ e. let q : n ≡ p = cc in subst (λ k. (n ≤ k) × (k - n < length (first ∷ decls))) q (omega arith, omega arith)
+      | false ↦ λ e. let ih = place-within (n + 1) p decls id e in (omega (arith, ih.0), omega (arith, ih.0, ih.1))
     ] h
 
 pub declared_id : (decl : Decl) (id : GlobalId) → declared_ids (declaration decl) ≡ id ∷ [] → decl_id decl ≡ id
@@ -139,8 +139,8 @@ declared_id (Axiom first ty) id h = cc
 pub undeclared-absent : (decls : List Decl) (id : GlobalId) → (Contains (environment_ids (environment decls)) id → ⊥) → place_of decls id ≡ None
 undeclared-absent decls id fresh =
     elim (place_of decls id) as (λ place. place_of decls id ≡ place → place ≡ None) [
-      None ↦ λ e. refl
-    | Some p ↦ λ e. absurd (fresh (found-declared 0 p decls id e))
+      | None ↦ λ e. refl
+      | Some p ↦ λ e. absurd (fresh (found-declared 0 p decls id e))
     ] refl
 
 -- A map of places still gives the places once a new declaration and its place are added.

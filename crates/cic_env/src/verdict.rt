@@ -14,29 +14,61 @@ pub enum Missing {
 #[derive(Drop)]
 pub enum Cause {
     /// An id or a variable is not there.
-    Unbound { what: Missing },
+    Unbound {
+        what: Missing,
+    },
     /// What is applied is no function.
-    NotFunction { depth: u32, form: Term },
+    NotFunction {
+        depth: u32,
+        form: Term,
+    },
     /// What is to be a type has no sort.
-    NotSort { depth: u32, form: Term },
+    NotSort {
+        depth: u32,
+        form: Term,
+    },
     /// One type is found where another is wanted.
-    Mismatch { depth: u32, found: Term, wanted: Term },
+    Mismatch {
+        depth: u32,
+        found: Term,
+        wanted: Term,
+    },
     /// What is matched on is of no inductive type.
-    NotInductive { depth: u32, form: Term },
+    NotInductive {
+        depth: u32,
+        form: Term,
+    },
     /// A match on that type may not have this sort.
-    BadElimination { ind: GlobalId },
+    BadElimination {
+        ind: GlobalId,
+    },
     /// A match on that type has other branches than it has constructors.
-    BadBranchCount { ind: GlobalId },
+    BadBranchCount {
+        ind: GlobalId,
+    },
     /// These sorts have a form that is not compared.
-    UniverseForm { found: Sort, wanted: Sort },
+    UniverseForm {
+        found: Sort,
+        wanted: Sort,
+    },
     /// That call of that function of a fixpoint is not guarded.
-    Unguarded { f: u32, call: u32 },
+    Unguarded {
+        f: u32,
+        call: u32,
+    },
     /// That argument of the constructor, from 1, or its conclusion, 0, is not strictly positive.
-    NotPositive { ctor: GlobalId, argument: u32 },
+    NotPositive {
+        ctor: GlobalId,
+        argument: u32,
+    },
     /// The arity of the type has not the shape that it must have.
-    BadArity { ind: GlobalId },
+    BadArity {
+        ind: GlobalId,
+    },
     /// The type of the constructor has not the shape that it must have.
-    BadConstructor { ctor: GlobalId },
+    BadConstructor {
+        ctor: GlobalId,
+    },
 }
 
 /// What a check answers.

@@ -6,7 +6,6 @@ use Rattle.cic_terms.specs.declared.level.Part.TheVariants.{Declared, Visible, P
 use Rattle.cic_terms.specs.declared.level.Level.{Level}
 use Rattle.cic_terms.specs.declared.level.Level.TheVariants.{Set, Named}
 
-
 -- The key of a constraint, which orders constraints (this project's own): the left level, 1 where it is
 -- strict and else 0, the right level. The key of a level is 0 for Set, and else 1, 2 or 3 for its part,
 -- the library's name, the owner's name and the number; that of a name is its length and its bytes. It is

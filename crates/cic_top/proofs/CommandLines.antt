@@ -55,10 +55,13 @@ first_missing (word ∷ words) h = absurd (omega arith)
 pub first_wrong : (word : List ℕ) (words : List (List ℕ)) → (word ≡ codes "coqc" → ⊥) → FirstNotUnderstood (word ∷ words) 1
 first_wrong word words wrong = record {
   earlier = before_first (word ∷ words);
-  this = inl (omega arith, λ (rest, library, line).
-    let e = (command_line_words line).1 in
-    let same : word ≡ codes "coqc" = cc in
-    wrong same);
+  this = inl (
+    omega arith,
+    λ (rest, library, line).
+        let e = (command_line_words line).1 in
+        let same : word ≡ codes "coqc" = cc in
+        wrong same,
+  );
 }
 
 -- The second word is missing, or is no source of a library.
@@ -73,10 +76,13 @@ pub second_wrong : (word : List ℕ) (words : List (List ℕ)) → ((library : L
     FirstNotUnderstood (codes "coqc" ∷ word ∷ words) 2
 second_wrong word words wrong = record {
   earlier = before_second (word ∷ words);
-  this = inl (omega arith, λ (rest, library, line).
-    let (name, e) = command_line_words line in
-    let same : word ≡ source_name library = cc in
-    wrong library name same);
+  this = inl (
+    omega arith,
+    λ (rest, library, line).
+        let (name, e) = command_line_words line in
+        let same : word ≡ source_name library = cc in
+        wrong library name same,
+  );
 }
 
 -- A third word is never understood.

@@ -20,21 +20,21 @@ one_library {a = a} {b = b} (coqc n e) (coqc n' e') =
 -- Words are no command line and misread.
 pub no_command_line-misread : {words : List (List ℕ)} {k : ℕ} {a : List ℕ} → FirstNotUnderstood words k → CommandLine words a → ⊥
 no_command_line-misread {words = words} {k = k} {a = a} misread line = elim misread.this [
-    inl w ↦ w.1 (drop k words, a, subst (λ ws. CommandLine ws a) (sym (take-append-drop k words)) line)
+  | inl w ↦ w.1 (drop k words, a, subst (λ ws. CommandLine ws a) (sym (take-append-drop k words)) line)
   | inr w ↦ w.1 (a, line)
 ]
 
 -- No word before the first that is not understood is another such word.
 no_earlier_word : {words : List (List ℕ)} {j k : ℕ} → FirstNotUnderstood words j → FirstNotUnderstood words k → j < k → ⊥
 no_earlier_word {words = words} {j = j} {k = k} first second h = elim first.this [
-    inl w ↦ w.1 (second.earlier j h)
+  | inl w ↦ w.1 (second.earlier j h)
   | inr w ↦ elim second.this [ inl v ↦ absurd (omega arith) | inr v ↦ absurd (omega arith) ]
 ]
 
 -- One word is the first that is not understood.
 pub one_word : {words : List (List ℕ)} {j k : ℕ} → FirstNotUnderstood words j → FirstNotUnderstood words k → j ≡ k
 one_word {j = j} {k = k} first second = elim (cases_order j k) [
-    inl e ↦ e
+  | inl e ↦ e
   | inr apart ↦ elim apart [ inl h ↦ absurd (no_earlier_word first second h) | inr h ↦ absurd (no_earlier_word second first h) ]
 ]
 
@@ -66,14 +66,14 @@ goes_on_to {r = r} (one_more h t) (one_more {cs = cs'} h' t') le =
 -- A source is read in one way.
 pub one_reading : {s : List ℕ} {cs ds : List Sentence} → Reads s cs → Reads s ds → cs ≡ ds
 one_reading {cs = cs} {ds = ds} a b = elim (cases_lt (length a.rest) (length b.rest)) [
-    inl h ↦
-    let (es, more, e) = goes_on_to b.sentences a.sentences (omega arith) in
-    let nothing = (none_of_blanks b.blanks more).0 in
-    e ∙ ap (λ z. ds ++ z) nothing ∙ append-nil ds
+  | inl h ↦
+      let (es, more, e) = goes_on_to b.sentences a.sentences (omega arith) in
+      let nothing = (none_of_blanks b.blanks more).0 in
+      e ∙ ap (λ z. ds ++ z) nothing ∙ append-nil ds
   | inr h ↦
-    let (es, more, e) = goes_on_to a.sentences b.sentences h in
-    let nothing = (none_of_blanks a.blanks more).0 in
-    sym (e ∙ ap (λ z. cs ++ z) nothing ∙ append-nil cs)
+      let (es, more, e) = goes_on_to a.sentences b.sentences h in
+      let nothing = (none_of_blanks a.blanks more).0 in
+      sym (e ∙ ap (λ z. cs ++ z) nothing ∙ append-nil cs)
 ]
 
 -- A source that is read has no place where it is not understood.

@@ -63,7 +63,12 @@ fn accepting(alloc: Global, env: &Env) -> Result<Reply, FolderFault>
 
 /// The reply on a library, by what was found as its source.
 #[tactic(none)]
-fn over_source(alloc: Global, library: &Name, name: FileName, source: Source) -> Result<Reply, FolderFault>
+fn over_source(
+    alloc: Global,
+    library: &Name,
+    name: FileName,
+    source: Source,
+) -> Result<Reply, FolderFault>
     requires { name ≡ source_name library.now }
     ensures reply { IfOk result (λ reply. (bytes : Option (List ℕ)) → Fits source bytes →
         RepliesTo library.now bytes (answer_of reply.answer) (string_bytes reply.output)) }
@@ -71,7 +76,13 @@ fn over_source(alloc: Global, library: &Name, name: FileName, source: Source) ->
 {
     match source {
         Source::Absent => refusing(alloc, Refusal::NoFile { name }),
-        Source::Long(_) => refusing(alloc, Refusal::NotYet { name, place: LONGEST_SOURCE }),
+        Source::Long(_) => refusing(
+            alloc,
+            Refusal::NotYet {
+                name,
+                place: LONGEST_SOURCE,
+            },
+        ),
         Source::Text(text) => match compile(alloc, library, text.as_slice()) {
             Ok(env) => accepting(alloc, &env),
             Err(Stop::Refused(refusal)) => refusing(alloc, refusal),

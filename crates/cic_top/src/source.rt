@@ -19,7 +19,11 @@ pub(crate) enum Source {
 }
 
 /// Asks for the size of a source, and then for its bytes. A source that is too long is not read.
-pub(crate) fn source_in<F: Folder>(alloc: Global, folder: &mut F, name: &str) -> Result<Source, FolderFault>
+pub(crate) fn source_in<F: Folder>(
+    alloc: Global,
+    folder: &mut F,
+    name: &str,
+) -> Result<Source, FolderFault>
     ensures told { IfOk result (λ source. FoundUnder (F.files folder.old) name.now source) }
     ensures failed { FailedRose result (F.read_faults folder.old) (F.read_faults folder.new) }
     ensures quiet { OthersQuiet result (F.read_faults folder.old) (F.read_faults folder.new) }
