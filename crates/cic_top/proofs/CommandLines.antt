@@ -1,11 +1,11 @@
 -- Which words begin a command line, and which word is the first that is not understood.
-use Rattle.std.proofs.Common.{ℕ, zero, suc, List, [], ◌∷◌, ◌++◌, ◌≡◌, ◌≤◌, ◌<◌, ◌+◌, length, take, inl, inr, Bool, true, false, not, refl, sym, ap, subst, ◌∙◌, map, arith, codes, lit≤}
+use Rattle.std.proofs.Common.{ℕ, zero, suc, List, [], ◌∷◌, ◌≡◌, ◌≤◌, ◌<◌, ◌+◌, length, take, inl, inr, true, false, not, refl, sym, ap, subst, ◌∙◌, map, arith, codes, lit≤}
 use Rattle.std.specs.List.{HoldsAt}
 use Rattle.std.specs.Str.{is_utf8, chars, bytes_eq}
 use Rattle.std.specs.Cmp.Lexicographic.{same_text, other_text}
 use Rattle.std.proofs.lemmas.Bool.{not-true, not-false}
 use Rattle.std.proofs.lemmas.List.{length-map}
-use Rattle.cic_top.specs.CommandLine.{IsName, source_name, CommandLine, coqc, BeginsCommandLine, IsCommandLine, FirstNotUnderstood}
+use Rattle.cic_top.specs.CommandLine.{IsName, source_name, CommandLine, coqc, BeginsCommandLine, FirstNotUnderstood}
 
 -- There is a name.
 pub a_name : IsName (codes "A")
@@ -55,10 +55,13 @@ first_missing (word ∷ words) h = absurd (omega arith)
 pub first_wrong : (word : List ℕ) (words : List (List ℕ)) → (word ≡ codes "coqc" → ⊥) → FirstNotUnderstood (word ∷ words) 1
 first_wrong word words wrong = record {
   earlier = before_first (word ∷ words);
-  this = inl (omega arith, λ (rest, library, line).
-    let e = (command_line_words line).1 in
-    let same : word ≡ codes "coqc" = cc in
-    wrong same);
+  this = inl (
+    omega arith,
+    λ (rest, library, line).
+        let e = (command_line_words line).1 in
+        let same : word ≡ codes "coqc" = cc in
+        wrong same,
+  );
 }
 
 -- The second word is missing, or is no source of a library.
@@ -73,10 +76,13 @@ pub second_wrong : (word : List ℕ) (words : List (List ℕ)) → ((library : L
     FirstNotUnderstood (codes "coqc" ∷ word ∷ words) 2
 second_wrong word words wrong = record {
   earlier = before_second (word ∷ words);
-  this = inl (omega arith, λ (rest, library, line).
-    let (name, e) = command_line_words line in
-    let same : word ≡ source_name library = cc in
-    wrong library name same);
+  this = inl (
+    omega arith,
+    λ (rest, library, line).
+        let (name, e) = command_line_words line in
+        let same : word ≡ source_name library = cc in
+        wrong library name same,
+  );
 }
 
 -- A third word is never understood.

@@ -1,11 +1,11 @@
 -- A sentence whose name is new adds its axiom or is refused as the check of the axiom is.
-use Rattle.std.proofs.Common.{ℕ, zero, suc, List, [], ◌∷◌, ◌++◌, ◌≡◌, ◌≤◌, ◌<◌, ◌+◌, length, drop, refl, sym, ap, subst, ◌∙◌, map, add-one, arith}
+use Rattle.std.proofs.Common.{ℕ, zero, suc, List, [], ◌∷◌, ◌≡◌, ◌≤◌, ◌<◌, ◌+◌, length, drop, refl, sym, ap, subst, ◌∙◌, add-one, arith}
 use Rattle.std.proofs.Math.ListN.{get_or}
 use Rattle.std.proofs.Math.Seq.{drop-cons}
 use Rattle.std.specs.Prelude.{Result, Ok, Err}
 use Rattle.cic_terms.specs.Tree.{Tree, sort, prop}
 use Rattle.cic_rules.specs.Environment.{Environment}
-use Rattle.gal_parser.specs.Grammar.{Sentence, RawTerm, axiom_sentence, Reads, NotYetAt}
+use Rattle.gal_parser.specs.Grammar.{RawTerm, axiom_sentence, Reads, NotYetAt}
 use Rattle.cic_top.specs.CommandLine.{source_name}
 use Rattle.gal_parser.specs.Views.{raw_term, sentence_of, sentences_of}
 use Rattle.gal_parser.specs.declared.command.Command.{Command}

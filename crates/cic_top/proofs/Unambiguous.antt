@@ -1,16 +1,15 @@
 -- A command line and a source are read in one way, and a source is compiled in one way.
-use Rattle.std.proofs.Common.{ℕ, List, [], ◌∷◌, ◌++◌, ◌≡◌, ◌≤◌, ◌<◌, ◌+◌, ◌⊎◌, length, take, drop, inl, inr, refl, sym, ap, subst, ◌∙◌, append-nil, arith, codes}
+use Rattle.std.proofs.Common.{ℕ, List, [], ◌++◌, ◌≡◌, ◌≤◌, ◌<◌, length, drop, inl, inr, refl, sym, ap, subst, ◌∙◌, append-nil, arith, codes}
 use Rattle.std.proofs.lemmas.Bool.{cases_order, cases_lt}
 use Rattle.std.proofs.lemmas.List.{append_cancel_right, take-append-drop}
 use Rattle.cic_terms.specs.Tree.{Tree}
 use Rattle.cic_rules.specs.Environment.{Environment}
 use Rattle.gal_parser.specs.Tokens.{after_blanks}
-use Rattle.gal_parser.specs.Grammar as G
 use Rattle.gal_parser.specs.Grammar.{SpellsSentences, no_sentence, one_more, Reads, NotYetAt, too_long, unread, RawTerm, Sentence}
 use Rattle.gal_parser.proofs.GrammarLaws.{one_sentence, sentence_shortens, no_sentence_at_end}
-use Rattle.cic_top.specs.CommandLine.{IsName, source_name, CommandLine, coqc, BeginsCommandLine, IsCommandLine, FirstNotUnderstood}
+use Rattle.cic_top.specs.CommandLine.{source_name, CommandLine, coqc, FirstNotUnderstood}
 use Rattle.cic_top.specs.Refusals.{Refusal}
-use Rattle.cic_top.specs.Compilation.{StandsFor, prop_stands, Adds, adds_axiom, IsRefused, duplicate_name, not_accepted, Compiled, environment, refusal, Runs, all_run, one_adds, one_is_refused, Compiles, is_not_yet, is_read}
+use Rattle.cic_top.specs.Compilation.{StandsFor, prop_stands, Adds, adds_axiom, IsRefused, duplicate_name, not_accepted, Compiled, refusal, Runs, all_run, one_adds, one_is_refused, Compiles, is_not_yet, is_read}
 
 -- Words are the command line of one library.
 pub one_library : {words : List (List ℕ)} {a b : List ℕ} → CommandLine words a → CommandLine words b → a ≡ b
@@ -20,21 +19,21 @@ one_library {a = a} {b = b} (coqc n e) (coqc n' e') =
 -- Words are no command line and misread.
 pub no_command_line-misread : {words : List (List ℕ)} {k : ℕ} {a : List ℕ} → FirstNotUnderstood words k → CommandLine words a → ⊥
 no_command_line-misread {words = words} {k = k} {a = a} misread line = elim misread.this [
-    inl w ↦ w.1 (drop k words, a, subst (λ ws. CommandLine ws a) (sym (take-append-drop k words)) line)
+  | inl w ↦ w.1 (drop k words, a, subst (λ ws. CommandLine ws a) (sym (take-append-drop k words)) line)
   | inr w ↦ w.1 (a, line)
 ]
 
 -- No word before the first that is not understood is another such word.
 no_earlier_word : {words : List (List ℕ)} {j k : ℕ} → FirstNotUnderstood words j → FirstNotUnderstood words k → j < k → ⊥
 no_earlier_word {words = words} {j = j} {k = k} first second h = elim first.this [
-    inl w ↦ w.1 (second.earlier j h)
+  | inl w ↦ w.1 (second.earlier j h)
   | inr w ↦ elim second.this [ inl v ↦ absurd (omega arith) | inr v ↦ absurd (omega arith) ]
 ]
 
 -- One word is the first that is not understood.
 pub one_word : {words : List (List ℕ)} {j k : ℕ} → FirstNotUnderstood words j → FirstNotUnderstood words k → j ≡ k
 one_word {j = j} {k = k} first second = elim (cases_order j k) [
-    inl e ↦ e
+  | inl e ↦ e
   | inr apart ↦ elim apart [ inl h ↦ absurd (no_earlier_word first second h) | inr h ↦ absurd (no_earlier_word second first h) ]
 ]
 
@@ -66,14 +65,14 @@ goes_on_to {r = r} (one_more h t) (one_more {cs = cs'} h' t') le =
 -- A source is read in one way.
 pub one_reading : {s : List ℕ} {cs ds : List Sentence} → Reads s cs → Reads s ds → cs ≡ ds
 one_reading {cs = cs} {ds = ds} a b = elim (cases_lt (length a.rest) (length b.rest)) [
-    inl h ↦
-    let (es, more, e) = goes_on_to b.sentences a.sentences (omega arith) in
-    let nothing = (none_of_blanks b.blanks more).0 in
-    e ∙ ap (λ z. ds ++ z) nothing ∙ append-nil ds
+  | inl h ↦
+      let (es, more, e) = goes_on_to b.sentences a.sentences (omega arith) in
+      let nothing = (none_of_blanks b.blanks more).0 in
+      e ∙ ap (λ z. ds ++ z) nothing ∙ append-nil ds
   | inr h ↦
-    let (es, more, e) = goes_on_to a.sentences b.sentences h in
-    let nothing = (none_of_blanks a.blanks more).0 in
-    sym (e ∙ ap (λ z. cs ++ z) nothing ∙ append-nil cs)
+      let (es, more, e) = goes_on_to a.sentences b.sentences h in
+      let nothing = (none_of_blanks a.blanks more).0 in
+      sym (e ∙ ap (λ z. cs ++ z) nothing ∙ append-nil cs)
 ]
 
 -- A source that is read has no place where it is not understood.

@@ -78,7 +78,10 @@ fn judge(alloc: Global, env: &mut Env, decl: &Decl, id: GlobalId) -> Result<(), 
     match check_decl(alloc, env, decl, DEFAULT_BUDGET) {
         Verdict::Done(_found) => Ok(()),
         Verdict::Refused(cause) => Err(Stop::Refused(Refusal::Ill { id, cause })),
-        Verdict::Spent => Err(Stop::Refused(Refusal::Spent { id, budget: DEFAULT_BUDGET })),
+        Verdict::Spent => Err(Stop::Refused(Refusal::Spent {
+            id,
+            budget: DEFAULT_BUDGET,
+        })),
         Verdict::Deep => Err(Stop::Refused(Refusal::Deep { id })),
         Verdict::NoMemory => Err(Stop::NoMemory),
     }
@@ -150,7 +153,12 @@ fn not_yet(alloc: Global, library: &Name, place: u32) -> Stop
 }
 
 /// Runs the sentences in order.
-fn run_sentences(alloc: Global, library: &Name, env: &mut Env, commands: &[Command]) -> Result<(), Stop>
+fn run_sentences(
+    alloc: Global,
+    library: &Name,
+    env: &mut Env,
+    commands: &[Command],
+) -> Result<(), Stop>
     ensures { RunsOrRefuses library.now (items env.old) (sentences_of commands.now) result (items env.new) }
 {
     for command in commands {
