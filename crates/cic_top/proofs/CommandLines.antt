@@ -1,11 +1,11 @@
 -- Which words begin a command line, and which word is the first that is not understood.
-use Rattle.std.proofs.Common.{ℕ, zero, suc, List, [], ◌∷◌, ◌++◌, ◌≡◌, ◌≤◌, ◌<◌, ◌+◌, length, take, inl, inr, Bool, true, false, not, refl, sym, ap, subst, ◌∙◌, map, arith, codes, lit≤}
+use Rattle.std.proofs.Common.{ℕ, zero, suc, List, [], ◌∷◌, ◌≡◌, ◌≤◌, ◌<◌, ◌+◌, length, take, inl, inr, true, false, not, refl, sym, ap, subst, ◌∙◌, map, arith, codes, lit≤}
 use Rattle.std.specs.List.{HoldsAt}
 use Rattle.std.specs.Str.{is_utf8, chars, bytes_eq}
 use Rattle.std.specs.Cmp.Lexicographic.{same_text, other_text}
 use Rattle.std.proofs.lemmas.Bool.{not-true, not-false}
 use Rattle.std.proofs.lemmas.List.{length-map}
-use Rattle.cic_top.specs.CommandLine.{IsName, source_name, CommandLine, coqc, BeginsCommandLine, IsCommandLine, FirstNotUnderstood}
+use Rattle.cic_top.specs.CommandLine.{IsName, source_name, CommandLine, coqc, BeginsCommandLine, FirstNotUnderstood}
 
 -- There is a name.
 pub a_name : IsName (codes "A")

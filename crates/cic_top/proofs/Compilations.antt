@@ -1,14 +1,14 @@
 -- What a source is compiled to has lines: its axioms, or its refusal.
-use Rattle.std.proofs.Common.{ℕ, List, [], ◌∷◌, ◌++◌, ◌≡◌, ◌≤◌, refl, lit≤}
-use Rattle.cic_terms.specs.Tree.{Tree, sort, prop}
+use Rattle.std.proofs.Common.{ℕ, List, [], ◌∷◌, ◌++◌, lit≤}
+use Rattle.cic_terms.specs.Tree.{Tree}
 use Rattle.cic_terms.specs.declared.name.GlobalId.{GlobalId}
 use Rattle.cic_rules.specs.Environment.{Environment, declared, axiom_of}
 use Rattle.cic_kernel.proofs.Propositions.{check-prop_done}
 use Rattle.gal_parser.specs.Grammar.{Sentence}
 use Rattle.cic_top.specs.Refusals.{Refusal}
-use Rattle.cic_top.specs.Texts.{Prints, prop_is_printed, AxiomLine, AxiomLines, no_item, one_axiom, id_text, IsRefusalLine, not_yet_line, duplicate_line}
+use Rattle.cic_top.specs.Texts.{Prints, prop_is_printed, AxiomLine, AxiomLines, no_item, one_axiom, id_text, not_yet_line, duplicate_line}
 use Rattle.cic_top.specs.Lines.{HasAxiomLines, HasLine}
-use Rattle.cic_top.specs.Compilation.{StandsFor, prop_stands, Adds, adds_axiom, IsRefused, duplicate_name, not_accepted, default_budget, id_of, Compiled, environment, refusal, Runs, all_run, one_adds, one_is_refused, Compiles, is_not_yet, is_read}
+use Rattle.cic_top.specs.Compilation.{prop_stands, Adds, adds_axiom, IsRefused, duplicate_name, not_accepted, default_budget, id_of, Compiled, environment, refusal, Runs, all_run, one_adds, one_is_refused, Compiles, is_not_yet, is_read}
 
 -- One more axiom has one more line.
 one_line_more : {E : Environment} {lines : List AxiomLine} (id : GlobalId) {type : Tree} {text : List ℕ} →

@@ -1,11 +1,11 @@
--- A sentence whose name is new adds its axiom or is refused as the check of the axiom is.
-use Rattle.std.proofs.Common.{ℕ, zero, suc, List, [], ◌∷◌, ◌++◌, ◌≡◌, ◌≤◌, ◌<◌, ◌+◌, length, drop, refl, sym, ap, subst, ◌∙◌, map, add-one, arith}
+-- What a sentence, the sentences in order and a source give, as the calls that compile them answer.
+use Rattle.std.proofs.Common.{ℕ, zero, suc, List, [], ◌∷◌, ◌≡◌, ◌≤◌, ◌<◌, ◌+◌, length, drop, refl, sym, ap, subst, ◌∙◌, add-one, arith}
 use Rattle.std.proofs.Math.ListN.{get_or}
 use Rattle.std.proofs.Math.Seq.{drop-cons}
 use Rattle.std.specs.Prelude.{Result, Ok, Err}
 use Rattle.cic_terms.specs.Tree.{Tree, sort, prop}
 use Rattle.cic_rules.specs.Environment.{Environment}
-use Rattle.gal_parser.specs.Grammar.{Sentence, RawTerm, axiom_sentence, Reads, NotYetAt}
+use Rattle.gal_parser.specs.Grammar.{RawTerm, axiom_sentence, Reads, NotYetAt}
 use Rattle.cic_top.specs.CommandLine.{source_name}
 use Rattle.gal_parser.specs.Views.{raw_term, sentence_of, sentences_of}
 use Rattle.gal_parser.specs.declared.command.Command.{Command}
@@ -22,6 +22,7 @@ use Rattle.cic_top.specs.declared.compiling.Stop.TheVariants.{Refused, NoMemory}
 pub stands_for_prop : {raw : RawTerm} {t : Tree} → StandsFor raw t → t ≡ sort prop
 stands_for_prop prop_stands = refl
 
+-- A sentence whose name is new adds its axiom, or is refused as the check of the axiom is.
 pub adds_or_refuses : (library name : List ℕ) (raw : RawTerm) (type : Tree) (old new : Environment) (result : Result (Unit {0}) Stop) →
     ¬ Declares old (id_of library name) → StandsFor raw type → DeclaresOrRefuses old (id_of library name) type result new →
     AddsOrRefuses library old (axiom_sentence name raw) result new
@@ -31,6 +32,7 @@ adds_or_refuses library name raw type old new (Err (Refused r)) is_new stands (s
     subst (λ reason. IsRefused library old (axiom_sentence name raw) reason) (sym e) (not_accepted is_new stands rejected)
 adds_or_refuses library name raw type old new (Err NoMemory) is_new stands told = tt
 
+-- A sentence whose name is declared already is refused.
 pub duplicate_refuses : (library name : List ℕ) (raw : RawTerm) (E : Environment) (stop : Stop) →
     Declares E (id_of library name) → StopsFor stop (R.duplicate name) → AddsOrRefuses library E (axiom_sentence name raw) (Err stop) E
 duplicate_refuses library name raw E (Refused r) old e =
@@ -46,9 +48,7 @@ abbrev pub RestGives : List ℕ → Environment → Environment → List Command
 RestGives library first E commands i =
     (compiled : Compiled) → Runs library E (sentences_of (drop i commands)) compiled → Runs library first (sentences_of commands) compiled
 
-pub rest_gives_first : (library : List ℕ) (E : Environment) (commands : List Command) → RestGives library E E commands 0
-rest_gives_first library E commands = λ compiled runs. runs
-
+-- No item is behind the last.
 nothing_behind : {A : Type 0} (xs : List A) (i : ℕ) → length xs ≤ i → drop i xs ≡ []
 nothing_behind [] zero h = refl
 nothing_behind [] (suc i) h = refl
@@ -60,6 +60,7 @@ from_place : (commands : List Command) (i : ℕ) (command : Command) → i < len
     drop i commands ≡ command ∷ drop (i + 1) commands
 from_place commands i command within is = rw add-one (drop-cons commands i command within ∙ ap (λ x. x ∷ drop (suc i) commands) (sym is))
 
+-- So the next sentence adds its axiom, is refused, or is not there.
 pub rest_gives_more : (library : List ℕ) (first E E' : Environment) (commands : List Command) (i : ℕ) (command : Command) →
     i < length commands → command ≡ get_or commands i command → Adds library E (sentence_of command) E' →
     RestGives library first E commands i → RestGives library first E' commands (i + 1)

@@ -1,16 +1,15 @@
 -- A command line and a source are read in one way, and a source is compiled in one way.
-use Rattle.std.proofs.Common.{ℕ, List, [], ◌∷◌, ◌++◌, ◌≡◌, ◌≤◌, ◌<◌, ◌+◌, ◌⊎◌, length, take, drop, inl, inr, refl, sym, ap, subst, ◌∙◌, append-nil, arith, codes}
+use Rattle.std.proofs.Common.{ℕ, List, [], ◌++◌, ◌≡◌, ◌≤◌, ◌<◌, length, drop, inl, inr, refl, sym, ap, subst, ◌∙◌, append-nil, arith, codes}
 use Rattle.std.proofs.lemmas.Bool.{cases_order, cases_lt}
 use Rattle.std.proofs.lemmas.List.{append_cancel_right, take-append-drop}
 use Rattle.cic_terms.specs.Tree.{Tree}
 use Rattle.cic_rules.specs.Environment.{Environment}
 use Rattle.gal_parser.specs.Tokens.{after_blanks}
-use Rattle.gal_parser.specs.Grammar as G
 use Rattle.gal_parser.specs.Grammar.{SpellsSentences, no_sentence, one_more, Reads, NotYetAt, too_long, unread, RawTerm, Sentence}
 use Rattle.gal_parser.proofs.GrammarLaws.{one_sentence, sentence_shortens, no_sentence_at_end}
-use Rattle.cic_top.specs.CommandLine.{IsName, source_name, CommandLine, coqc, BeginsCommandLine, IsCommandLine, FirstNotUnderstood}
+use Rattle.cic_top.specs.CommandLine.{source_name, CommandLine, coqc, FirstNotUnderstood}
 use Rattle.cic_top.specs.Refusals.{Refusal}
-use Rattle.cic_top.specs.Compilation.{StandsFor, prop_stands, Adds, adds_axiom, IsRefused, duplicate_name, not_accepted, Compiled, environment, refusal, Runs, all_run, one_adds, one_is_refused, Compiles, is_not_yet, is_read}
+use Rattle.cic_top.specs.Compilation.{StandsFor, prop_stands, Adds, adds_axiom, IsRefused, duplicate_name, not_accepted, Compiled, refusal, Runs, all_run, one_adds, one_is_refused, Compiles, is_not_yet, is_read}
 
 -- Words are the command line of one library.
 pub one_library : {words : List (List ℕ)} {a b : List ℕ} → CommandLine words a → CommandLine words b → a ≡ b

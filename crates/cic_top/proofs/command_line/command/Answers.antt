@@ -1,6 +1,5 @@
 -- Each word that is missing or wrong is the first that is not understood.
-use Rattle.std.proofs.Common.{◌≡◌, map, string_bytes, List, ℕ, length, subst, sym, ap, ◌∙◌}
-use Rattle.std.specs.Prelude.{None, Some}
+use Rattle.std.proofs.Common.{map, string_bytes, subst, sym, ap, ◌∙◌}
 use Rattle.cic_top.specs.CommandLine.{CommandLine, FirstNotUnderstood}
 use Rattle.cic_top.specs.Reading.{IsLibraryOf}
 use Rattle.cic_top.proofs.CommandLines.{is_coqc, is_not_coqc, nothing_given, wrong_command, nothing_after_coqc, two_given, wrong_source, word_too_many, all_given}

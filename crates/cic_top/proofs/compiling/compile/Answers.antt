@@ -23,5 +23,5 @@ pub returns-in-Err-NotYet : goal.returns-in-Err-NotYet
 returns-in-Err-NotYet c =
     let told : OnNotYet {X = List Command} (Err c.in-Err-NotYet.field-0) (NotYetAt c.args.source.now) = c.in-Err-NotYet.ensures.fault in
     let at : NotYetAt c.args.source.now c.in-Err-NotYet.place =
-        subst (λ fault. OnNotYet {X = List Command} (Err fault) (NotYetAt c.args.source.now)) c.in-Err-NotYet.field-0-is told in
+    subst (λ fault. OnNotYet {X = List Command} (Err fault) (NotYetAt c.args.source.now)) c.in-Err-NotYet.field-0-is told in
     not_read c.args.library.now c.args.source.now c.in-Err-NotYet.place c.not_yet.result at c.not_yet.ensures
