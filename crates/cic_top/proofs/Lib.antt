@@ -6,3 +6,5 @@ pub mod FileNames
 pub mod Sentences
 pub mod FoundSources
 pub mod Printed
+pub mod Answered
+pub mod Promises

@@ -5,7 +5,10 @@ use Rattle.cic_io.specs.declared.folder.FolderFault.TheVariants.{Failed, NoMemor
 use Rattle.cic_rules.specs.Environment.{Environment}
 use Rattle.cic_top.specs.Refusals as R
 use Rattle.cic_top.specs.Texts.{IsAxiomList, IsRefusalLine, word_line}
-use Rattle.cic_top.specs.Views.{answer_of}
+use Rattle.cic_top.specs.Views.{answer_of, refusal_of}
+use Rattle.cic_top.specs.Lines.{HasLine}
+use Rattle.cic_top.specs.declared.compiling.Stop.{Stop}
+use Rattle.cic_top.specs.declared.compiling.Stop.TheVariants.{Refused, NoMemory as NoMemory'}
 use Rattle.cic_top.specs.declared.running.Reply.{Reply}
 
 -- The only fault is that there was no memory.
@@ -28,3 +31,12 @@ pub record RepliesList (E : Environment) (reply : Reply) : Type 0 where
 pub record RepliesWord (k : ℕ) (reply : Reply) : Type 0 where
   pub answer : answer_of reply.answer ≡ R.not_understood k
   pub line : string_bytes reply.output ≡ word_line k
+
+-- A refusal that stopped the compiling has a line, and the reply gives it.
+abbrev pub StopHasLine : Stop → Type 0
+StopHasLine (Refused r) = HasLine (refusal_of r)
+StopHasLine NoMemory' = Unit {0}
+
+abbrev pub RepliesStop : Stop → Reply → Type 0
+RepliesStop (Refused r) reply = RepliesRefusal (refusal_of r) reply
+RepliesStop NoMemory' reply = ⊥

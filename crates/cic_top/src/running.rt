@@ -12,7 +12,7 @@ ghost use Rattle.cic_top.specs.Command.{Refuses, Accepts};
 ghost use Rattle.cic_top.specs.Replies.{RepliesTo, Says};
 ghost use Rattle.cic_top.specs.Runs.{UnlessFault, IsOrFault, SaysAndSends, SaysAndSendsPart, AnswersAsStatedUnlessFaults};
 ghost use Rattle.cic_top.specs.Views.{answer_of, refusal_of};
-ghost use Rattle.cic_top.specs.Replying.{RepliesRefusal, RepliesList, RepliesWord, OnlyNoMemory};
+ghost use Rattle.cic_top.specs.Replying.{RepliesRefusal, RepliesList, RepliesWord, RepliesStop, StopHasLine, OnlyNoMemory};
 
 use crate::answer::{Answer, Refusal};
 use crate::command_line::{Misread, Words, command};
@@ -61,8 +61,31 @@ fn accepting(alloc: Global, env: &Env) -> Result<Reply, FolderFault>
     })
 }
 
+/// The reply to why a source gave no environment.
+fn stopping(alloc: Global, stop: Stop) -> Result<Reply, FolderFault>
+    requires { StopHasLine stop }
+    ensures reply { IfOk result (RepliesStop stop) }
+    ensures fault { OnlyNoMemory result }
+{
+    match stop {
+        Stop::Refused(refusal) => refusing(alloc, refusal),
+        Stop::NoMemory => Err(FolderFault::NoMemory),
+    }
+}
+
+/// The reply on a library, by the text of its source.
+fn over_text(alloc: Global, library: &Name, text: &[u8]) -> Result<Reply, FolderFault>
+    ensures reply { IfOk result (λ reply.
+        RepliesTo library.now (Some text.now) (answer_of reply.answer) (string_bytes reply.output)) }
+    ensures fault { OnlyNoMemory result }
+{
+    match compile(alloc, library, text) {
+        Ok(env) => accepting(alloc, &env),
+        Err(stop) => stopping(alloc, stop),
+    }
+}
+
 /// The reply on a library, by what was found as its source.
-#[tactic(none)]
 fn over_source(
     alloc: Global,
     library: &Name,
@@ -83,16 +106,11 @@ fn over_source(
                 place: LONGEST_SOURCE,
             },
         ),
-        Source::Text(text) => match compile(alloc, library, text.as_slice()) {
-            Ok(env) => accepting(alloc, &env),
-            Err(Stop::Refused(refusal)) => refusing(alloc, refusal),
-            Err(Stop::NoMemory) => Err(FolderFault::NoMemory),
-        },
+        Source::Text(text) => over_text(alloc, library, text.as_slice()),
     }
 }
 
 /// The reply to a command line, over a folder.
-#[tactic(none)]
 fn reply_over<F: Folder>(alloc: Global, words: &Words, folder: &mut F) -> Result<Reply, FolderFault>
     ensures says { IfOk result (λ reply.
         Says words.now (F.files folder.old) (answer_of reply.answer) (string_bytes reply.output)) }
