@@ -1,8 +1,8 @@
 -- What the answers of the program's checks stand for.
 use Rattle.std.specs.Prelude.{◌≡◌}
 use Rattle.cic_terms.specs.Denotes.{tree, tree_sort}
-use Rattle.cic_rules.specs.Outcome as O
-use Rattle.cic_rules.specs.Checking as C
+use Rattle.cic_counted.specs.Outcome as O
+use Rattle.cic_counted.specs.Checking as C
 use Rattle.cic_env.specs.declared.verdict.Missing.{Missing}
 use Rattle.cic_env.specs.declared.verdict.Missing.TheVariants.{Global, Local}
 use Rattle.cic_env.specs.declared.verdict.Cause.{Cause}

@@ -3,10 +3,10 @@ use Rattle.std.proofs.Common.{◌≡◌, ap, ℕ, zero, suc, ◌+◌, ◌-◌, �
 use Rattle.cic_terms.specs.Tree.{sort, prop}
 use Rattle.cic_terms.specs.declared.name.GlobalId.{GlobalId}
 use Rattle.cic_rules.specs.Environment.{Environment, axiom_of}
-use Rattle.cic_rules.specs.Outcome.{spent}
-use Rattle.cic_rules.specs.Checking.{check_declaration, accepts, rejects}
-use Rattle.cic_rules.specs.Inference.{calls_from, calls_at}
-use Rattle.cic_rules.specs.Evaluation.{whnf_at}
+use Rattle.cic_counted.specs.Outcome.{spent}
+use Rattle.cic_counted.specs.Checking.{check_declaration, accepts, rejects}
+use Rattle.cic_counted.specs.Inference.{calls_from, calls_at}
+use Rattle.cic_counted.specs.Evaluation.{whnf_at}
 use Rattle.cic_env.specs.Declarations.{declaration}
 use Rattle.cic_env.specs.declared.declaration.Decl.{Decl}
 use Rattle.cic_env.specs.declared.declaration.Decl.TheVariants.{Axiom}

@@ -3,7 +3,7 @@
 #![tactic(auto)]
 
 ghost use Rattle.std.specs.Prelude.{◌≡◌};
-ghost use Rattle.cic_rules.specs.Checking.{check_declaration};
+ghost use Rattle.cic_counted.specs.Checking.{check_declaration};
 ghost use Rattle.cic_env.specs.Declarations.{declaration};
 ghost use Rattle.cic_env.specs.Environments.{items};
 ghost use Rattle.cic_env.specs.Verdicts.{Judges};

@@ -4,8 +4,7 @@ use Rattle.std.specs.Prelude.{ℕ, zero, suc, ◌+◌, ◌≡◌, ◌≢◌, if�
 use Rattle.cic_terms.specs.Tree.{Former, Binders, over, Tree, rel, node, Children, no_child, child, lam, app, ind, case}
 use Rattle.cic_terms.specs.declared.name.GlobalId.{GlobalId}
 use Rattle.cic_rules.specs.Environment.{Environment, TypeInBlock, Block, TypeDeclaration, ConstructorDeclaration, whole_block, element, bare_ids}
-use Rattle.cic_rules.specs.Telescopes.{apply, head_of, domains_of, conclusion_of, Function}
-use Rattle.cic_rules.specs.BlockTests.{is_among, is_type_among}
+use Rattle.cic_rules.specs.Telescopes.{is_among, is_type_among, apply, head_of, domains_of, conclusion_of, Function}
 
 -- What a variable is for the guard: the recursive variable, a smaller one, function `j`, or none of these.
 pub data Mark : Type 0 where

@@ -1,3 +1,4 @@
+-- The rules of the logic, in the order in which they stand on one another.
 pub mod Sameness
 pub mod Constraints
 pub mod Numbering
@@ -5,16 +6,7 @@ pub mod Environment
 pub mod Telescopes
 pub mod Step
 pub mod Conversion
-pub mod Outcome
-pub mod Evaluation
 pub mod Inductive
-pub mod BlockTests
 pub mod Guard
-pub mod GuardTest
 pub mod Typing
 pub mod Formed
-pub mod Inference
-pub mod Done
-pub mod DoneTyping
-pub mod Checking
-pub mod Examples

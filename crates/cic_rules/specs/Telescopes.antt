@@ -1,9 +1,11 @@
 -- Applications, products and abstractions in a row, and terms put in for several binders at once.
-use Rattle.std.specs.Prelude.{ℕ, zero, suc, ◌+◌, if◌then◌else◌, Option, Some, None, List, [], ◌∷◌, ◌++◌, length, map, take, drop}
-use Rattle.cic_terms.specs.Tree.{Shape, many, over, Tree, rel, Children, no_child, child, prod, lam, app, fix, join}
+use Rattle.std.specs.Prelude.{ℕ, zero, suc, ◌+◌, Bool, false, if◌then◌else◌, Option, Some, None, List, [], ◌∷◌, ◌++◌, length, map, take, drop}
+use Rattle.cic_terms.specs.Tree.{Shape, many, over, Tree, rel, Children, no_child, child, prod, lam, app, ind, fix, join}
 use Rattle.cic_terms.specs.Lift.{lift_tree, subst_tree}
 use Rattle.cic_rules.specs.Environment.{Context, assumed}
-use Rattle.cic_rules.specs.Sameness.{same_children}
+use Rattle.cic_rules.specs.Sameness.{same_id, same_children}
+use Rattle.cic_terms.specs.declared.name.GlobalId.{GlobalId}
+use Rattle.std.specs.List.{list_any}
 
 -- A function applied to arguments, the first innermost.
 abbrev pub apply : Tree → List Tree → Tree
@@ -159,3 +161,12 @@ each_fixpoint (suc count) which fs = fixpoint which fs ∷ each_fixpoint count (
 -- The full body of a function with the Fixes put in for the functions.
 abbrev pub unfolded : List Function → Function → Tree
 unfolded fs f = substitute_all (each_fixpoint (length fs) 0 fs) (full_body (length fs) f)
+
+-- Whether an id is among others.
+abbrev pub is_among : GlobalId → List GlobalId → Bool
+is_among id = list_any (same_id id)
+
+-- Whether a term is one of these types.
+abbrev pub is_type_among : List GlobalId → Tree → Bool
+is_type_among ids (ind id) = is_among id ids
+is_type_among ids t = false

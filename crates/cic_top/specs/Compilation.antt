@@ -3,8 +3,8 @@ use Rattle.std.specs.Prelude.{ℕ, ◌≡◌, List, [], ◌∷◌, ◌++◌, Con
 use Rattle.cic_terms.specs.Tree.{Tree, sort, prop}
 use Rattle.cic_terms.specs.declared.name.GlobalId.{GlobalId}
 use Rattle.cic_rules.specs.Environment.{Environment, environment_ids, Declaration, axiom_of, declared}
-use Rattle.cic_rules.specs.Outcome as O
-use Rattle.cic_rules.specs.Checking.{Found, accepts, rejects, check_declaration}
+use Rattle.cic_counted.specs.Outcome as O
+use Rattle.cic_counted.specs.Checking.{Found, accepts, rejects, check_declaration}
 use Rattle.gal_parser.specs.Grammar as G
 use Rattle.cic_top.specs.Refusals.{Refusal, duplicate, ill, spent, deep, not_yet}
 use Rattle.cic_top.specs.CommandLine.{source_name}

@@ -3,8 +3,8 @@ use Rattle.std.specs.Prelude.{ℕ, List, [], ◌∷◌, ◌++◌, Result, Ok, Er
 use Rattle.cic_terms.specs.Tree.{Tree}
 use Rattle.cic_terms.specs.declared.name.GlobalId.{GlobalId}
 use Rattle.cic_rules.specs.Environment.{Environment, Declaration, axiom_of, declared}
-use Rattle.cic_rules.specs.Outcome.{Stopped}
-use Rattle.cic_rules.specs.Checking.{Found, accepts, rejects, check_declaration}
+use Rattle.cic_counted.specs.Outcome.{Stopped}
+use Rattle.cic_counted.specs.Checking.{Found, accepts, rejects, check_declaration}
 use Rattle.cic_env.specs.Environments.{items}
 use Rattle.cic_env.specs.declared.environment.Env.{Env}
 use Rattle.gal_parser.specs.Grammar.{Sentence}

@@ -1,7 +1,7 @@
 -- Why a command is refused, and what a command answers.
 use Rattle.std.specs.Prelude.{ℕ, List}
 use Rattle.cic_terms.specs.declared.name.GlobalId.{GlobalId}
-use Rattle.cic_rules.specs.Outcome.{Cause}
+use Rattle.cic_counted.specs.Outcome.{Cause}
 
 -- A refusal, with what it names: a file that is not there; the place of a source from which on it is
 -- not understood; a name that is declared twice; a declaration that is ill formed, whose check spends

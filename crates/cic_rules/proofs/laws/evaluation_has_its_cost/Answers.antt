@@ -1,5 +1,0 @@
-use Rattle.cic_rules.proofs.Taken.{whnf_done}
-use Rattle.cic_rules.proofs.laws.evaluation_has_its_cost.Goals as goal
-
-pub returns : goal.returns
-returns c = whnf_done

@@ -1,5 +1,0 @@
-use Rattle.cic_rules.proofs.Functions.{functions_of-parts}
-use Rattle.cic_rules.proofs.laws.functions_are_read_off.Goals as goal
-
-pub returns : goal.returns
-returns c = functions_of-parts
