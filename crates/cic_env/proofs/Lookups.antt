@@ -1,15 +1,15 @@
 -- Lookups by id: the test of equal ids decides equality, and the place of an id in a list of
 -- declarations gives what the id stands for.
-use Rattle.std.proofs.Common.{◌≡◌, ℕ, suc, inl, inr, add-zero, ◌+◌, ◌-◌, ◌<◌, ◌≤◌, List, [], ◌∷◌, ◌++◌, length, Bool, true, false, ◌&&◌, nat_eq, nat_lt, refl, sym, ap, subst, ◌∙◌, arith, rules, Contains, slice_index_or, if◌then◌else◌}
+use Rattle.std.proofs.Common.{◌≡◌, ℕ, suc, inl, inr, add-zero, ◌+◌, ◌-◌, ◌<◌, ◌≤◌, List, [], ◌∷◌, ◌++◌, length, Bool, true, false, ◌&&◌, nat_eq, refl, sym, ap, subst, ◌∙◌, arith, Contains, slice_index_or, if◌then◌else◌}
 use Rattle.std.specs.Prelude.{Option, Some, None, is_some, IsTrue, ◌↔◌}
 use Rattle.std.specs.Cmp.Lexicographic.{pointwise, bytes_decides}
 use Rattle.std.specs.Cmp.{first_so, second_so}
-use Rattle.std.proofs.lemmas.List.Elements.{Contains-append_left, Contains-append_right, Contains-append_cases}
+use Rattle.std.proofs.lemmas.List.Elements.{Contains-append_cases}
 use Rattle.cic_terms.specs.Denotes.{tree}
 use Rattle.cic_terms.specs.declared.name.GlobalId.{GlobalId}
 use Rattle.cic_rules.specs.Sameness.{same_id, same_list}
 use Rattle.cic_rules.specs.Environment.{meaning, constant, or_else, environment_ids, declared_ids}
-use Rattle.cic_env.specs.Declarations.{declaration, decl_id, decl_meaning, environment, item}
+use Rattle.cic_env.specs.Declarations.{declaration, decl_id, decl_meaning, environment}
 use Rattle.cic_env.specs.Places.{place_from, place_of, first_or}
 use Rattle.cic_env.specs.declared.declaration.Decl.{Decl}
 use Rattle.cic_env.specs.declared.declaration.Decl.TheVariants.{Axiom}

@@ -1,6 +1,6 @@
 -- What an environment of the program stands for, and what its calls answer.
-use Rattle.std.specs.Prelude.{Contains, List, ◌≡◌, Result, Ok, Err}
-use Rattle.cic_rules.specs.Environment.{Environment, Meaning, environment_ids, declared_ids}
+use Rattle.std.specs.Prelude.{Contains, ◌≡◌, Result, Ok, Err}
+use Rattle.cic_rules.specs.Environment.{Environment, Meaning, environment_ids}
 use Rattle.cic_env.specs.Declarations.{environment, decl_meaning, decl_id}
 use Rattle.cic_env.specs.declared.declaration.Decl.{Decl}
 use Rattle.cic_env.specs.declared.environment.Env.{Env}

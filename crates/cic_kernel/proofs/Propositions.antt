@@ -1,5 +1,5 @@
 -- The check of an axiom of type Prop: it takes three steps, whatever the environment.
-use Rattle.std.proofs.Common.{◌≡◌, ap, ℕ, zero, suc, ◌+◌, ◌-◌, ◌<◌, ◌≤◌, refl, rules, arith, []}
+use Rattle.std.proofs.Common.{◌≡◌, ap, ℕ, zero, suc, ◌-◌, ◌<◌, ◌≤◌, refl, arith, []}
 use Rattle.cic_terms.specs.Tree.{sort, prop}
 use Rattle.cic_terms.specs.declared.name.GlobalId.{GlobalId}
 use Rattle.cic_rules.specs.Environment.{Environment, axiom_of}

@@ -1,7 +1,7 @@
 -- What the command answers is one answer, and no fault; and what the functions that make a reply give
 -- is what the command says.
-use Rattle.std.proofs.Common.{◌≡◌, ℕ, ◌<◌, length, List, refl, sym, subst, ◌∙◌, ap, inl, inr}
-use Rattle.std.specs.Prelude.{Option, Some, None, Result, Ok, Err, IfOk, ◌⊎◌, string_bytes}
+use Rattle.std.proofs.Common.{◌≡◌, ℕ, ◌<◌, length, List, refl, sym, subst, ◌∙◌, ap}
+use Rattle.std.specs.Prelude.{Option, Some, None, Result, Ok, Err, IfOk, string_bytes}
 use Rattle.cic_io.specs.Files.{Files, file_at}
 use Rattle.cic_rules.specs.Environment.{Environment}
 use Rattle.cic_top.specs.CommandLine.{CommandLine, FirstNotUnderstood, source_name}
@@ -19,8 +19,7 @@ use Rattle.cic_top.specs.Replying.{RepliesRefusal, RepliesList, RepliesWord, Rep
 use Rattle.cic_top.specs.declared.compiling.Stop.{Stop}
 use Rattle.cic_top.specs.declared.compiling.Stop.TheVariants as S
 use Rattle.cic_top.specs.declared.source.Source.TheVariants.{Absent}
-use Rattle.cic_top.specs.Runs.{UnlessFault, IsOrFault}
-use Rattle.cic_top.specs.Texts.{IsRefusalLine}
+use Rattle.cic_top.specs.Runs.{UnlessFault}
 use Rattle.cic_top.specs.Views.{answer_of, refusal_of}
 use Rattle.cic_top.specs.declared.running.Reply.{Reply}
 use Rattle.cic_top.proofs.Compilations.{refused-has_line}

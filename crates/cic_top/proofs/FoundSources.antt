@@ -1,16 +1,15 @@
 -- What a folder's answers on the size and the bytes of a source tell of its contents.
-use Rattle.std.proofs.Common.{◌≡◌, ℕ, ◌+◌, ◌<◌, ◌≤◌, List, [], ◌∷◌, length, take, drop, refl, sym, ap, subst, ◌∙◌, arith, rules}
-use Rattle.std.specs.Prelude.{Option, Some, None, IfSome, replicate}
+use Rattle.std.proofs.Common.{◌≡◌, ℕ, ◌<◌, List, [], length, refl, sym, ap, ◌∙◌}
+use Rattle.std.specs.Prelude.{Option, Some, None, replicate}
 use Rattle.std.specs.Prelude.{unwrap_or, Vec}
 use Rattle.std.specs.declared.alloc.Global.{Global}
 use Rattle.std.proofs.lemmas.List.{length-replicate}
 use Rattle.std.proofs.Math.Seq.{take-length}
 use Rattle.std.specs.Option.{option_map}
-use Rattle.cic_io.specs.Files.{Files, file_at, size_of, bytes_of, bytes_from}
+use Rattle.cic_io.specs.Files.{Files, file_at, bytes_from}
 use Rattle.cic_io.specs.Reading.{SizeTold, WholeTold}
 use Rattle.gal_parser.specs.Grammar.{longest_source}
-use Rattle.cic_top.specs.Sources.{FoundUnder, Fits}
-use Rattle.cic_top.specs.declared.source.Source.{Source}
+use Rattle.cic_top.specs.Sources.{FoundUnder}
 use Rattle.cic_top.specs.declared.source.Source.TheVariants.{Absent, Long, Text}
 
 no_length-none : (bytes : Option (List ℕ)) → None ≡ option_map length bytes → bytes ≡ None

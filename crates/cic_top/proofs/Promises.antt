@@ -1,15 +1,15 @@
 -- What `run` promises, clause by clause, where the command's own answer is given, and where a fault is.
-use Rattle.std.proofs.Common.{◌≡◌, ℕ, ◌++◌, List, refl, sym, subst, ◌∙◌, inl, inr}
-use Rattle.std.specs.Prelude.{Option, Some, None, ◌⊎◌}
+use Rattle.std.proofs.Common.{◌≡◌, ℕ, ◌++◌, List, refl, subst, inl, inr}
+use Rattle.std.specs.Prelude.{Option, Some, ◌⊎◌}
 use Rattle.cic_io.specs.Files.{Files, file_at}
-use Rattle.cic_io.specs.Sending.{SentAll, SentPart}
+use Rattle.cic_io.specs.Sending.{SentAll}
 use Rattle.cic_rules.specs.Environment.{Environment}
 use Rattle.cic_top.specs.CommandLine.{FirstNotUnderstood}
 use Rattle.cic_top.specs.Refusals as R
 use Rattle.cic_top.specs.Command.{Contents, Refuses, Accepts, Answers}
 use Rattle.cic_top.specs.Sources.{AreContentsOf}
 use Rattle.cic_top.specs.Replies.{Says}
-use Rattle.cic_top.specs.Runs.{UnlessFault, IsOrFault, SaysAndSends, SaysAndSendsPart, AnswersAsStated, AnswersAsStatedUnlessFaults}
+use Rattle.cic_top.specs.Runs.{UnlessFault, IsOrFault, SaysAndSends, AnswersAsStatedUnlessFaults}
 use Rattle.cic_top.proofs.Answered.{no_read_fault, no_sink_fault, no_memory_fault, unless_fault, answered-word, answered-refusal, word-is_answered, refusal-is_answered, pass-is_answered}
 
 -- Over told files the contents are those of the files.

@@ -2,7 +2,7 @@
 use Rattle.std.specs.Prelude.{ℕ, ◌≡◌, List, [], ◌∷◌, ◌++◌, Contains}
 use Rattle.cic_terms.specs.Tree.{Tree, sort, prop}
 use Rattle.cic_terms.specs.declared.name.GlobalId.{GlobalId}
-use Rattle.cic_rules.specs.Environment.{Environment, environment_ids, Declaration, axiom_of, declared}
+use Rattle.cic_rules.specs.Environment.{Environment, environment_ids, axiom_of, declared}
 use Rattle.cic_counted.specs.Outcome as O
 use Rattle.cic_counted.specs.Checking.{Found, accepts, rejects, check_declaration}
 use Rattle.gal_parser.specs.Grammar as G

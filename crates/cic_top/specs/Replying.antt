@@ -1,5 +1,5 @@
 -- What the functions that make a reply give.
-use Rattle.std.specs.Prelude.{ℕ, List, Result, Ok, Err, ◌≡◌, string_bytes}
+use Rattle.std.specs.Prelude.{ℕ, Result, Ok, Err, ◌≡◌, string_bytes}
 use Rattle.cic_io.specs.declared.folder.FolderFault.{FolderFault}
 use Rattle.cic_io.specs.declared.folder.FolderFault.TheVariants.{Failed, NoMemory}
 use Rattle.cic_rules.specs.Environment.{Environment}

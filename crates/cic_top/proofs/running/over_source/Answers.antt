@@ -1,7 +1,7 @@
 use Rattle.std.proofs.Common.{subst}
 use Rattle.cic_top.specs.Sources.{Fits}
 use Rattle.cic_top.specs.Texts.{no_file_line, not_yet_line}
-use Rattle.cic_top.proofs.Answered.{if_ok, absent-replies, long-replies, text-replies}
+use Rattle.cic_top.proofs.Answered.{if_ok, absent-replies, long-replies}
 use Rattle.cic_top.proofs.running.over_source.Goals as goal
 
 pub refusing-requires : goal.refusing-requires

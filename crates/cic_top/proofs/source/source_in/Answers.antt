@@ -1,4 +1,4 @@
-use Rattle.std.proofs.Common.{◌≡◌, sym, ◌∙◌, ◌<◌, arith}
+use Rattle.std.proofs.Common.{arith}
 use Rattle.cic_top.proofs.FoundSources.{found-absent, found-long, found-text}
 use Rattle.cic_top.proofs.source.source_in.Goals as goal
 

@@ -1,7 +1,6 @@
-use Rattle.std.proofs.Common.{◌≡◌, ◌∙◌, sym, arith, ap, ◌<◌, ◌-◌, ℕ, length}
-use Rattle.std.specs.Prelude.{Some, None}
+use Rattle.std.proofs.Common.{◌≡◌, ◌∙◌, sym, arith, ◌-◌}
+use Rattle.std.specs.Prelude.{Some}
 use Rattle.cic_env.specs.Places.{place_of}
-use Rattle.cic_env.specs.Declarations.{decl_meaning}
 use Rattle.cic_env.proofs.Lookups.{place-found, place-within, place-absent}
 use Rattle.cic_env.proofs.environment.Env.get.Goals as goal
 

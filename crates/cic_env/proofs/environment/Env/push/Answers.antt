@@ -1,8 +1,7 @@
-use Rattle.std.proofs.Common.{◌≡◌, ◌∙◌, sym, subst, Contains, ◌∷◌, ℕ, List, length, rules}
+use Rattle.std.proofs.Common.{◌≡◌, ◌∙◌, sym, subst, Contains, length, rules}
 use Rattle.cic_rules.specs.Environment.{environment_ids}
-use Rattle.cic_env.specs.Environments.{items, OnlyDuplicate}
+use Rattle.cic_env.specs.Environments.{items}
 use Rattle.cic_env.specs.Declarations.{decl_id}
-use Rattle.cic_terms.specs.declared.name.GlobalId.{GlobalId}
 use Rattle.cic_env.proofs.Lookups.{placed-by_insert, declared_id, not_declared}
 use Rattle.cic_env.proofs.environment.Env.push.Goals as goal
 use Rattle.cic_env.proofs.environment.Env.push.Goals.{in-Ok-insert, in-Err-insert+in-Some}
