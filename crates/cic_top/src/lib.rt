@@ -12,3 +12,6 @@ mod source;
 pub use answer::{Answer, Refusal};
 pub use command_line::Words;
 pub use running::run;
+
+#[cfg(test)]
+mod tests;
