@@ -13,7 +13,7 @@ use Rattle.cic_top.specs.declared.source.Source.{Source}
 use Rattle.gal_parser.specs.Grammar.{longest_source, too_long}
 use Rattle.cic_env.specs.Environments.{items}
 use Rattle.cic_env.specs.declared.environment.Env.{Env}
-use Rattle.cic_top.specs.Command.{Contents, RefusesSource, is_absent, is_refused, AcceptsSource, Refuses, Accepts, Answers, is_misread, refuses, accepts}
+use Rattle.cic_top.specs.Command.{Contents, RefusesSource, is_absent, is_refused, AcceptsSource, Refuses, Accepts, IsAccepted, Answers, is_misread, refuses, accepts}
 use Rattle.cic_top.specs.Replies.{RepliesTo, replies_refusal, replies_environment, Says}
 use Rattle.cic_top.specs.Replying.{RepliesRefusal, RepliesList, RepliesWord, RepliesStop, StopHasLine}
 use Rattle.cic_top.specs.declared.compiling.Stop.{Stop}
@@ -80,6 +80,12 @@ pub answered-refusal : {words : List (List ℕ)} {content : Contents} {output : 
 answered-refusal (is_misread m t) r e = absurd (cc)
 answered-refusal (refuses {r = s} m t) r e = let same : s ≡ r = cc in subst (Refuses _ _) same m
 answered-refusal (accepts m t) r e = absurd (cc)
+
+pub answered-pass : {words : List (List ℕ)} {content : Contents} {output : List ℕ} {a : R.Answer} → Answers words content a output →
+    a ≡ R.passed → IsAccepted words content
+answered-pass (is_misread m t) e = absurd (cc)
+answered-pass (refuses m t) e = absurd (cc)
+answered-pass (accepts {E = E} m t) e = (E, m)
 
 -- The command has one answer.
 some-one : {A : Type 0} (x y : A) → Some x ≡ Some y → x ≡ y

@@ -6,11 +6,11 @@ use Rattle.cic_io.specs.Sending.{SentAll}
 use Rattle.cic_rules.specs.Environment.{Environment}
 use Rattle.cic_top.specs.CommandLine.{FirstNotUnderstood}
 use Rattle.cic_top.specs.Refusals as R
-use Rattle.cic_top.specs.Command.{Contents, Refuses, Accepts, Answers}
+use Rattle.cic_top.specs.Command.{Contents, Refuses, Accepts, IsAccepted, Answers}
 use Rattle.cic_top.specs.Sources.{AreContentsOf}
 use Rattle.cic_top.specs.Replies.{Says}
 use Rattle.cic_top.specs.Runs.{UnlessFault, IsOrFault, SaysAndSends, AnswersAsStatedUnlessFaults}
-use Rattle.cic_top.proofs.Answered.{no_read_fault, no_sink_fault, no_memory_fault, unless_fault, answered-word, answered-refusal, word-is_answered, refusal-is_answered, pass-is_answered}
+use Rattle.cic_top.proofs.Answered.{no_read_fault, no_sink_fault, no_memory_fault, unless_fault, answered-word, answered-refusal, answered-pass, word-is_answered, refusal-is_answered, pass-is_answered}
 
 -- Over told files the contents are those of the files.
 content-told : (content : Contents) (told : Option Files) (fs : Files) → told ≡ Some fs → AreContentsOf content told → content ≡ file_at fs
@@ -41,6 +41,9 @@ module _ {words : List (List ℕ)} {told : Option Files} {a : R.Answer} {output 
 
   pub said-refused_where : (fs : Files) (r : R.Refusal) → told ≡ Some fs → Refuses words (file_at fs) r → IsOrFault a (R.refused r)
   said-refused_where fs r is_told why = inl (refusal-is_answered (answers-told fs is_told) r why)
+
+  pub said-passed_only : (fs : Files) → told ≡ Some fs → a ≡ R.passed → IsAccepted words (file_at fs)
+  said-passed_only fs is_told e = answered-pass (answers-told fs is_told) e
 
   pub said-passed_where : (fs : Files) (E : Environment) → told ≡ Some fs → Accepts words (file_at fs) E → IsOrFault a R.passed
   said-passed_where fs E is_told why = inl (pass-is_answered (answers-told fs is_told) E why)
@@ -73,6 +76,15 @@ sink-no_refusal r e = absurd cc
 
 pub memory-no_refusal : {P : Type 0} (r : R.Refusal) → R.no_memory ≡ R.refused r → P
 memory-no_refusal r e = absurd cc
+
+pub read-no_pass : {P : Type 0} → R.read_fault ≡ R.passed → P
+read-no_pass e = absurd cc
+
+pub sink-no_pass : {P : Type 0} → R.sink_fault ≡ R.passed → P
+sink-no_pass e = absurd cc
+
+pub memory-no_pass : {P : Type 0} → R.no_memory ≡ R.passed → P
+memory-no_pass e = absurd cc
 
 pub read-no_sink : {P : Type 0} → R.read_fault ≡ R.sink_fault → P
 read-no_sink e = absurd cc

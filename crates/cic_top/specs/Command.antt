@@ -38,6 +38,10 @@ pub record Accepts (words : List (List ℕ)) (content : Contents) (E : Environme
   pub command : CommandLine words library
   pub source : AcceptsSource library (content (source_name library)) E
 
+-- The command accepts some environment.
+abbrev pub IsAccepted : List (List ℕ) → Contents → Type 0
+IsAccepted words content = (E : Environment) × Accepts words content E
+
 -- What the command answers and what it prints.
 pub data Answers (words : List (List ℕ)) (content : Contents) : Answer → (output : List ℕ) → Type 0 where
   is_misread : {k : ℕ} {output : List ℕ} →

@@ -8,7 +8,7 @@ ghost use Rattle.cic_top.specs.Refusals.{Refusal as Reason, passed, not_understo
 ghost use Rattle.cic_top.specs.Texts.{IsAxiomList, IsRefusalLine};
 ghost use Rattle.cic_top.specs.Lines.{HasLine, HasAxiomLines};
 ghost use Rattle.cic_top.specs.Sources.{Fits};
-ghost use Rattle.cic_top.specs.Command.{Refuses, Accepts};
+ghost use Rattle.cic_top.specs.Command.{Refuses, Accepts, IsAccepted};
 ghost use Rattle.cic_top.specs.Replies.{RepliesTo, Says};
 ghost use Rattle.cic_top.specs.Runs.{UnlessFault, IsOrFault, SaysAndSends, SaysAndSendsPart, AnswersAsStatedUnlessFaults};
 ghost use Rattle.cic_top.specs.Views.{answer_of, refusal_of};
@@ -163,6 +163,8 @@ pub fn run<F: Folder, O: Sink>(alloc: Global, words: &Words, folder: &mut F, out
         Refuses words.now (file_at fs) r }
     ensures refused_where { (fs : Files) (r : Reason) → F.files folder.old ≡ Some fs → Refuses words.now (file_at fs) r →
         IsOrFault (answer_of result) (refused r) }
+    ensures passed_only { (fs : Files) → F.files folder.old ≡ Some fs → answer_of result ≡ passed →
+        IsAccepted words.now (file_at fs) }
     ensures passed_where { (fs : Files) (E : Environment) → F.files folder.old ≡ Some fs → Accepts words.now (file_at fs) E →
         IsOrFault (answer_of result) passed }
     ensures read_fault { answer_of result ≡ read_fault → Rose (F.read_faults folder.old) (F.read_faults folder.new) }

@@ -1,5 +1,5 @@
 use Rattle.std.proofs.Common.{refl, inl, inr}
-use Rattle.cic_top.proofs.Promises.{said-stated, said-says, said-words_only, said-words_where, said-refused_only, said-refused_where, said-passed_where, said-no_read_fault, said-no_sink_fault, said-no_fault, read-no_word, sink-no_word, memory-no_word, read-no_refusal, sink-no_refusal, memory-no_refusal, read-no_sink, sink-no_read, memory-no_read, memory-no_sink, sink-sent, or-read, or-sink, or-memory}
+use Rattle.cic_top.proofs.Promises.{said-stated, said-says, said-words_only, said-words_where, said-refused_only, said-refused_where, said-passed_where, said-passed_only, said-no_read_fault, said-no_sink_fault, said-no_fault, read-no_word, sink-no_word, memory-no_word, read-no_refusal, sink-no_refusal, memory-no_refusal, read-no_pass, sink-no_pass, memory-no_pass, read-no_sink, sink-no_read, memory-no_read, memory-no_sink, sink-sent, or-read, or-sink, or-memory}
 use Rattle.cic_top.proofs.running.run.Goals as goal
 
 pub returns-in-Ok-write-clause-stated : goal.returns-in-Ok-write-clause-stated
@@ -160,3 +160,15 @@ returns-in-Err-NoMemory-clause-unsent g c = λ _. refl
 
 pub returns-in-Err-NoMemory-clause-part : goal.returns-in-Err-NoMemory-clause-part
 returns-in-Err-NoMemory-clause-part g c = memory-no_sink
+
+pub returns-in-Ok-write-clause-passed_only : goal.returns-in-Ok-write-clause-passed_only
+returns-in-Ok-write-clause-passed_only g c = said-passed_only c.in-Ok.ensures.says
+
+pub returns-in-Err-Failed-write-clause-passed_only : goal.returns-in-Err-Failed-write-clause-passed_only
+returns-in-Err-Failed-write-clause-passed_only g c = λ fs _ e. sink-no_pass e
+
+pub returns-in-Err-Failed-clause-passed_only : goal.returns-in-Err-Failed-clause-passed_only
+returns-in-Err-Failed-clause-passed_only g c = λ fs _ e. read-no_pass e
+
+pub returns-in-Err-NoMemory-clause-passed_only : goal.returns-in-Err-NoMemory-clause-passed_only
+returns-in-Err-NoMemory-clause-passed_only g c = λ fs _ e. memory-no_pass e
