@@ -5,18 +5,11 @@ use Rattle.std.proofs.Common.{◌≡◌, ◌≢◌, ℕ, zero, suc, ◌+◌, Boo
 use Rattle.cic_terms.specs.Tree.{Tree}
 use Rattle.cic_rules.specs.Constraints.{Constraint}
 use Rattle.cic_counted.specs.Outcome.{Budget, Outcome, done, stops, Stopped, spent, deep, Cause, Counted, follow, ◌>>=◌, ◌>>◌, give, stop, refuse, refused, or_refuse, require, refuse_for, spend, tick, note, is_small, fitting, fitting_all}
-
--- A budget with more left, and an outcome with more left where it is done.
-abbrev pub raised : ℕ → Budget → Budget
-raised x b = record { rest = b.rest + x; found = b.found }
-
-abbrev pub raised_outcome : {A : Type 0} → ℕ → Outcome A → Outcome A
-raised_outcome x (done a b) = done a (raised x b)
-raised_outcome x (stops s) = stops s
+use Rattle.cic_laws.specs.Budgets.{raised, raised_outcome, StaysWhenRaised}
 
 -- What a call answers within a budget, unless it is spent, it answers within every greater one.
 pub record Persists {A : Type 0} (m : Counted A) : Type 0 where
-  pub more : (b : Budget) (x : ℕ) → m b ≢ stops spent → m (raised x b) ≡ raised_outcome x (m b)
+  pub more : StaysWhenRaised m
 
 -- One outcome and what follows it, where each persists.
 pub follow_raised : {A B : Type 0} (x : ℕ) (o o' : Outcome A) (f g : A → Counted B) → (o ≢ stops spent → o' ≡ raised_outcome x o) → ((a : A) (b : Budget) → f a b ≢ stops spent → g a (raised x b) ≡ raised_outcome x (f a b)) → follow o f ≢ stops spent → follow o' g ≡ raised_outcome x (follow o f)

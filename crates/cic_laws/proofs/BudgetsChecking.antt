@@ -9,7 +9,8 @@ use Rattle.cic_counted.specs.BlockTests.{shape_fault, positivity_fault}
 use Rattle.cic_counted.specs.Outcome.{Outcome, done, stops, refused, deep, spent, bad_constructor}
 use Rattle.cic_counted.specs.Inference.{Calls, is_prop, calls_from}
 use Rattle.cic_counted.specs.Checking.{Found, Answer, accepts, rejects, Split, take_found, all_visible, shape_cause, positivity_cause, check_arities, argument_at_most, check_arguments, ending_sort, check_constructor, check_constructors, check_types, check_block, judge, answer_of, check_declaration}
-use Rattle.cic_laws.proofs.BudgetsCalls.{raised_outcome, Persists, persists_give, persists_bind, persists_then, persists_if, persists_or_refuse, persists_refuse_for}
+use Rattle.cic_laws.specs.Budgets.{raised_outcome}
+use Rattle.cic_laws.proofs.BudgetsCalls.{Persists, persists_give, persists_bind, persists_then, persists_if, persists_or_refuse, persists_refuse_for}
 use Rattle.cic_laws.proofs.BudgetsEvaluation.{persists_sorts_at_most}
 use Rattle.cic_laws.proofs.BudgetsTyping.{CallsPersist, calls_persist}
 
@@ -99,7 +100,7 @@ steps_of_answer budget (done s b) found e =
     omega (arith, r)
 steps_of_answer budget (stops s) found e = cc
 
-steps_within : (E : Environment) (d : Declaration) (budget : ℕ) (found : Found) → check_declaration E d budget ≡ accepts found → found.steps ≤ budget
+pub steps_within : (E : Environment) (d : Declaration) (budget : ℕ) (found : Found) → check_declaration E d budget ≡ accepts found → found.steps ≤ budget
 unfolding check_declaration
 steps_within E d budget found e = steps_of_answer budget _ found e
 

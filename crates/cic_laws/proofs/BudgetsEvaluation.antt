@@ -12,7 +12,8 @@ use Rattle.cic_rules.specs.Numbering.{plain_level}
 use Rattle.cic_rules.specs.Telescopes.{apply, head_of, arguments_of, abstractions, lift_domains, Function, functions_of, function_types}
 use Rattle.cic_counted.specs.Outcome.{Budget, stops, Counted, mismatch, universe_form, spent, deep, stop}
 use Rattle.cic_counted.specs.Evaluation.{Turn, answer, again, reduce, variable_turn, constant_turn, is_constructor, unfolds, recursive_turn, fix_turn, application_turn, matched, match_turn, turn_of, goes_on, loop_of, whnf_at, differ, equal_levels, equal_sorts, atoms_below, levels_at_most, sorts_at_most, same_places, convert_children, convert_each, fitting_body, convert_bodies, convert_functions, value_first, compare_nodes, compare, conv_at, below_or_equal, cumul_at}
-use Rattle.cic_laws.proofs.BudgetsCalls.{raised, raised_outcome, Persists, follow_raised, persists_give, persists_stop, persists_refuse, persists_tick, persists_note, persists_bind, persists_then, persists_if, persists_fitting, persists_fitting_all}
+use Rattle.cic_laws.specs.Budgets.{raised, raised_outcome}
+use Rattle.cic_laws.proofs.BudgetsCalls.{Persists, follow_raised, persists_give, persists_stop, persists_refuse, persists_tick, persists_note, persists_bind, persists_then, persists_if, persists_fitting, persists_fitting_all}
 
 persists_reduce : (t : Tree) → Persists (reduce t)
 persists_reduce t = persists_then persists_tick (persists_bind (persists_fitting t) (λ u. persists_give (again u)))

@@ -1,7 +1,7 @@
 -- Where the check of one declaration is done, it is done within every budget that its steps suffice for,
 -- also within a smaller one than it ran with. For calls of typing this is known from their costs; here
 -- it is carried along the text of the check.
-use Rattle.std.proofs.Common.{◌≡◌, ℕ, ◌+◌, ◌-◌, ◌≤◌, Bool, true, false, if◌then◌else◌, Option, Some, None, List, [], ◌∷◌, ◌++◌, length, take, drop, refl, sym, ap, ap₂, ◌∙◌, arith}
+use Rattle.std.proofs.Common.{◌≡◌, ℕ, ◌+◌, ◌-◌, ◌≤◌, ◌<◌, ◌≢◌, subst, Bool, true, false, if◌then◌else◌, Option, Some, None, List, [], ◌∷◌, ◌++◌, length, take, drop, refl, sym, ap, ap₂, ◌∙◌, arith}
 use Rattle.std.specs.Prelude.{option_and_then}
 use Rattle.cic_terms.specs.Tree.{TreeSort, prop, set, typ, Tree, sort}
 use Rattle.cic_terms.specs.declared.level.Level.{Level}
@@ -12,13 +12,19 @@ use Rattle.cic_rules.specs.Numbering.{plain_level}
 use Rattle.cic_rules.specs.Environment.{Environment, Context, Declaration, axiom_of, transparent, opaque, inductive, Block, TypeDeclaration, ConstructorDeclaration, bare, assumed}
 use Rattle.cic_rules.specs.Telescopes.{domains_of, conclusion_of, extend}
 use Rattle.cic_counted.specs.BlockTests.{shape_fault, positivity_fault}
-use Rattle.cic_counted.specs.Outcome.{Budget, Outcome, done, stops, Stopped, Cause, mismatch, universe_form, bad_constructor, refused, Counted, follow, ◌>>=◌, ◌>>◌, give, stop, refuse, note, or_refuse, refuse_for}
-use Rattle.cic_counted.specs.Evaluation.{atoms_below, levels_at_most, sorts_at_most}
+use Rattle.cic_counted.specs.Outcome.{Budget, Outcome, done, stops, spent, Stopped, Cause, mismatch, universe_form, bad_constructor, refused, deep, Counted, follow, ◌>>=◌, ◌>>◌, give, stop, refuse, note, or_refuse, refuse_for}
+use Rattle.cic_counted.specs.Evaluation.{whnf_at, conv_at, cumul_at, atoms_below, levels_at_most, sorts_at_most}
 use Rattle.cic_counted.specs.Inference.{Calls, is_prop, calls_at, calls_from}
 use Rattle.cic_counted.specs.Checking.{Found, accepts, Split, take_found, all_visible, shape_cause, positivity_cause, check_arities, argument_at_most, check_arguments, ending_sort, check_constructor, check_constructors, check_types, check_block, judge, answer_of, check_declaration}
-use Rattle.cic_counted.proofs.Taken.{follow_done, done_value, done_rest}
-use Rattle.cic_counted.proofs.TakenTyping.{check_done, sort_of_done}
-use Rattle.cic_counted.proofs.RunsTyping.{check_run, sort_run}
+use Rattle.cic_counted.specs.Done.{Cost, Took, left_after}
+use Rattle.cic_counted.proofs.Taken.{follow_done, done_value, done_rest, whnf_done}
+use Rattle.cic_counted.proofs.TakenConversion.{conv_done, cumul_done}
+use Rattle.cic_counted.proofs.TakenTyping.{infer_done, check_done, sort_of_done}
+use Rattle.cic_counted.proofs.Runs.{whnf_runs}
+use Rattle.cic_counted.proofs.RunsConversion.{converts_run, cumulates_run}
+use Rattle.cic_counted.proofs.RunsTyping.{infer_run, check_run, sort_run}
+use Rattle.cic_laws.specs.Budgets.{with_rest, raised, raised_outcome, HasSteps}
+use Rattle.cic_laws.proofs.BudgetsCalls.{Persists}
 
 abbrev left : ℕ → List Constraint → Budget
 left rest found = record { rest = rest; found = found }
@@ -87,27 +93,37 @@ settles_refuse_for : (o : Option Cause) → Settles (refuse_for o)
 settles_refuse_for None = settles_give tt
 settles_refuse_for (Some c) = settles_refuse c
 
-settles_sort_of : (k : ℕ) (E : Environment) (G : Context) (t : Tree) → Settles ((calls_at k E).sort_of G t)
-settles_sort_of k E G t = record {
-  runs = λ s b b' e.
-      let h = sort_of_done E k G t s b b' e in (
-        h.0.steps,
-        h.3.rest,
-        λ r l.
-            sort_run E G k t s h.0 (left r b.found) h.1 h.2 l ∙ ap (λ z. done s (left (r - h.0.steps) z)) (sym h.3.found),
-      );
+-- A call of which the cost is known where it is done, and which is done within every budget of that cost.
+settles_by_cost : {A : Type 0} {m : Counted A} → ((a : A) (b b' : Budget) → m b ≡ done a b' → (c : Cost) × Took c b b' × ((r : ℕ) → c.steps ≤ r → m (left r b.found) ≡ done a (left_after c (left r b.found)))) → Settles m
+settles_by_cost h = record {
+  runs = λ a b b' e.
+      let k = h a b b' e in
+      (k.0.steps, k.1.rest, λ r l. k.2 r l ∙ ap (λ z. done a (left (r - k.0.steps) z)) (sym k.1.found));
 }
 
-settles_check : (k : ℕ) (E : Environment) (G : Context) (t T : Tree) → Settles ((calls_at k E).check G t T)
-settles_check k E G t T = record {
-  runs = λ u b b' e.
-      let h = check_done E k G t T u b b' e in (
-        h.0.steps,
-        h.3.rest,
-        λ r l.
-            check_run E G k t T h.0 (left r b.found) h.1 h.2 l ∙ ap (λ z. done u (left (r - h.0.steps) z)) (sym h.3.found),
-      );
-}
+pub settles_whnf : (k : ℕ) (E : Environment) (G : Context) (t : Tree) → Settles (whnf_at k E G t)
+settles_whnf k E G t = settles_by_cost (λ v b b' e.
+    let h = whnf_done E G k t v b b' e in (h.0, h.3, λ r l. whnf_runs E G k t v h.0 (left r b.found) h.1 h.2 l))
+
+pub settles_conv : (k : ℕ) (E : Environment) (G : Context) (t u : Tree) → Settles (conv_at k E G t u)
+settles_conv k E G t u = settles_by_cost (λ v b b' e.
+    let h = conv_done E k G t u v b b' e in (h.0, h.3, λ r l. converts_run E h.1 k h.2 (left r b.found) l))
+
+pub settles_cumul : (k : ℕ) (E : Environment) (G : Context) (t u : Tree) → Settles (cumul_at k E G t u)
+settles_cumul k E G t u = settles_by_cost (λ v b b' e.
+    let h = cumul_done E k G t u v b b' e in (h.0, h.3, λ r l. cumulates_run E h.1 k h.2 (left r b.found) l))
+
+pub settles_infer : (k : ℕ) (E : Environment) (G : Context) (t : Tree) → Settles ((calls_at k E).infer G t)
+settles_infer k E G t = settles_by_cost (λ T b b' e.
+    let h = infer_done E k G t T b b' e in (h.0, h.3, λ r l. infer_run E G k t T h.0 (left r b.found) h.1 h.2 l))
+
+pub settles_check : (k : ℕ) (E : Environment) (G : Context) (t T : Tree) → Settles ((calls_at k E).check G t T)
+settles_check k E G t T = settles_by_cost (λ u b b' e.
+    let h = check_done E k G t T u b b' e in (h.0, h.3, λ r l. check_run E G k t T h.0 (left r b.found) h.1 h.2 l))
+
+pub settles_sort_of : (k : ℕ) (E : Environment) (G : Context) (t : Tree) → Settles ((calls_at k E).sort_of G t)
+settles_sort_of k E G t = settles_by_cost (λ s b b' e.
+    let h = sort_of_done E k G t s b b' e in (h.0, h.3, λ r l. sort_run E G k t s h.0 (left r b.found) h.1 h.2 l))
 
 settles_atoms_below : (e : List Atom) (m : Level) → Settles (atoms_below e m)
 settles_atoms_below [] m = settles_give tt
@@ -200,3 +216,34 @@ accepted_within m p budget other (stops s) found q e l = cc
 pub check_accepts_within : (E : Environment) (d : Declaration) (budget other : ℕ) (found : Found) → check_declaration E d budget ≡ accepts found → found.steps ≤ other → check_declaration E d other ≡ accepts found
 unfolding check_declaration
 check_accepts_within E d budget other found e l = accepted_within (judge E d) (settles_judge E d) budget other _ found refl e l
+
+-- A call that persists is spent below its steps: were it not, it would take as few within the budget that
+-- it is done with.
+spent_below : {A : Type 0} {m : Counted A} → Persists m → (a : A) (b b' : Budget) (s r : ℕ) → b.rest ≡ s + b'.rest → m b ≡ done a b' → r < s → m (with_rest r b) ≡ stops spent
+spent_below {A = A} {m = m} p a b b' s r k e l = by_outcome (m (with_rest r b)) refl
+  where
+    lifted : m (with_rest r b) ≢ stops spent → m b ≡ raised_outcome (b.rest - r) (m (with_rest r b))
+    lifted n =
+        let whole : r + (b.rest - r) ≡ b.rest = omega (arith, k, l) in
+        subst (λ z. m (with_rest z b) ≡ raised_outcome (b.rest - r) (m (with_rest r b))) whole (p.more (with_rest r b) (b.rest - r) n)
+
+    by_outcome : (o : Outcome A) → m (with_rest r b) ≡ o → m (with_rest r b) ≡ stops spent
+    by_outcome (done v c) q =
+        let n : m (with_rest r b) ≢ stops spent = λ z. let u : done v c ≡ stops spent = sym q ∙ z in cc in
+        let same : done a b' ≡ done v (raised (b.rest - r) c) = sym e ∙ lifted n ∙ ap (raised_outcome (b.rest - r)) q in
+        let rest : b'.rest ≡ c.rest + (b.rest - r) = ap (λ z. z.rest) (done_rest same) in
+        absurd (omega (arith, rest, k, l))
+    by_outcome (stops spent) q = q
+    by_outcome (stops deep) q =
+        let n : m (with_rest r b) ≢ stops spent = λ z. let u : stops deep ≡ stops spent = sym q ∙ z in cc in
+        let same : done a b' ≡ stops deep = sym e ∙ lifted n ∙ ap (raised_outcome (b.rest - r)) q in
+        cc
+    by_outcome (stops (refused c)) q =
+        let n : m (with_rest r b) ≢ stops spent = λ z. let u : stops (refused c) ≡ stops spent = sym q ∙ z in cc in
+        let same : done a b' ≡ stops (refused c) = sym e ∙ lifted n ∙ ap (raised_outcome (b.rest - r)) q in
+        cc
+
+pub has_steps : {A : Type 0} {m : Counted A} → Persists m → Settles m → HasSteps m
+has_steps p q a b b' e =
+    let h = q.runs a b b' e in
+    record { steps = h.0; rest = h.1; below = λ r l. spent_below p a b b' h.0 r h.1 e l; within = h.2 }

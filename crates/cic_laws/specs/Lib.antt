@@ -1,1 +1,1 @@
--- No definitions of its own: the laws speak of those of the crates below.
+pub mod Budgets
