@@ -1,0 +1,5 @@
+pub mod BudgetsCalls
+pub mod BudgetsEvaluation
+pub mod BudgetsTyping
+pub mod BudgetsChecking
+pub mod BudgetsSteps

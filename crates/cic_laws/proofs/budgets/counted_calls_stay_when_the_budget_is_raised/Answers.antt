@@ -1,0 +1,21 @@
+use Rattle.cic_laws.proofs.BudgetsEvaluation.{persists_whnf, persists_conv, persists_cumul}
+use Rattle.cic_laws.proofs.BudgetsTyping.{calls_persist}
+use Rattle.cic_laws.proofs.budgets.counted_calls_stay_when_the_budget_is_raised.Goals as goal
+
+pub returns-clause-evaluation : goal.returns-clause-evaluation
+returns-clause-evaluation c = λ E G k t. (persists_whnf k E G t).more
+
+pub returns-clause-conversion : goal.returns-clause-conversion
+returns-clause-conversion c = λ E G k t u. (persists_conv k E G t u).more
+
+pub returns-clause-subtyping : goal.returns-clause-subtyping
+returns-clause-subtyping c = λ E G k t u. (persists_cumul k E G t u).more
+
+pub returns-clause-inference : goal.returns-clause-inference
+returns-clause-inference c = λ E G k t. ((calls_persist k E).infer G t).more
+
+pub returns-clause-check : goal.returns-clause-check
+returns-clause-check c = λ E G k t T. ((calls_persist k E).check G t T).more
+
+pub returns-clause-sort : goal.returns-clause-sort
+returns-clause-sort c = λ E G k t. ((calls_persist k E).sort_of G t).more
