@@ -1,0 +1,3 @@
+pub mod Composition
+pub mod LiftAndSubst
+pub mod Commuting
