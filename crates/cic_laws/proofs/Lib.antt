@@ -1,5 +1,9 @@
+-- The proofs of the laws, by subject.
 pub mod BudgetsCalls
 pub mod BudgetsEvaluation
 pub mod BudgetsTyping
 pub mod BudgetsChecking
 pub mod BudgetsSteps
+pub mod Composition
+pub mod LiftAndSubst
+pub mod Commuting

@@ -1,1 +1,3 @@
+-- What the laws speak of beyond the rules and the check.
 pub mod Budgets
+pub mod Substitution
