@@ -7,3 +7,4 @@ pub mod BudgetsSteps
 pub mod Composition
 pub mod LiftAndSubst
 pub mod Commuting
+pub mod GuardsGrowth
