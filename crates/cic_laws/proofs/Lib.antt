@@ -8,3 +8,4 @@ pub mod Composition
 pub mod LiftAndSubst
 pub mod Commuting
 pub mod GuardsGrowth
+pub mod GuardsFitting
