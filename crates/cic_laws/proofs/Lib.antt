@@ -9,3 +9,4 @@ pub mod LiftAndSubst
 pub mod Commuting
 pub mod GuardsGrowth
 pub mod GuardsFitting
+pub mod GuardsSubstitution
