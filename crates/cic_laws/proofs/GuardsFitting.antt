@@ -1,8 +1,8 @@
 -- A substitution that fits marks does so under more binders, and what fits a mark stays so past them. The
 -- guard under a substitution needs it at each binder that it goes under.
-use Rattle.std.proofs.Common.{◌≡◌, ◌≢◌, ℕ, zero, suc, ◌+◌, List, [], ◌∷◌, length, replicate, refl, sym, ap, ◌∙◌}
+use Rattle.std.proofs.Common.{◌≡◌, ◌≢◌, ℕ, zero, suc, List, [], ◌∷◌, length, replicate, refl, sym, ◌∙◌}
 use Rattle.std.proofs.lemmas.List.{length-replicate}
-use Rattle.cic_terms.specs.Tree.{Former, Binders, over, Tree, rel, node, Children, no_child, child}
+use Rattle.cic_terms.specs.Tree.{over, Tree, rel, node, Children, no_child, child}
 use Rattle.cic_rules.specs.Guard.{Mark, plain, function, Marks, under_mark, under_marks, under_plain}
 use Rattle.cic_laws.specs.Substitution.{renaming_under_one, renaming_under, rename, rename_children, substitution_under_one, substitution_under}
 use Rattle.cic_laws.specs.Guards.{WithoutFunctions, no_function, in_no_part, PartsWithoutFunctions, no_part, part_without, FitsMark, for_plain, same_mark, KeepsMarks, FitsMarks}

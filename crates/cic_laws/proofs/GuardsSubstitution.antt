@@ -1,13 +1,13 @@
 -- The smaller terms stay smaller, and the fine terms fine, under a substitution that fits their marks. One
 -- induction over the smaller terms, one over the fine ones: a variable with a mark stays a variable with that
 -- mark, and a plain one becomes a term without functions, which is fine whatever its marks.
-use Rattle.std.proofs.Common.{◌≡◌, ◌≢◌, ℕ, zero, suc, ◌+◌, List, [], ◌∷◌, length, map, Option, Some, None, refl, sym, ap, ◌∙◌, arith}
-use Rattle.cic_terms.specs.Tree.{Former, more, over, Tree, rel, node, Children, no_child, child, app}
+use Rattle.std.proofs.Common.{◌≡◌, ◌≢◌, ℕ, zero, suc, ◌+◌, List, [], ◌∷◌, map, Option, Some, refl, sym, ap, ◌∙◌, arith}
+use Rattle.cic_terms.specs.Tree.{more, over, Tree, rel, Children, app}
 use Rattle.cic_terms.specs.Lift.{lift_tree, subst_rel, subst_tree}
 use Rattle.cic_terms.specs.declared.name.GlobalId.{GlobalId}
 use Rattle.cic_rules.specs.Environment.{element}
 use Rattle.cic_rules.specs.Telescopes.{apply}
-use Rattle.cic_rules.specs.Guard.{Mark, plain, main, smaller, function, Marks, under_mark, under_marks, under_plain, Smaller, smaller_variable, smaller_application, smaller_abstraction, smaller_match, smaller_match_on_smaller, Known, recursive_variable, known_smaller, SmallerParts, no_smaller_part, smaller_part, SmallerBranches, no_smaller_branch, smaller_branch, smaller_plain_branch, Fine, fine_variable, fine_call, fine_parts, fine_match_on_smaller, AllFine, none_fine, more_fine, FineParts, no_fine_part, fine_part, FineBranches, no_fine_branch, fine_branch, fine_plain_branch}
+use Rattle.cic_rules.specs.Guard.{Mark, plain, function, Marks, under_mark, under_marks, under_plain, Smaller, smaller_variable, smaller_application, smaller_abstraction, smaller_match, smaller_match_on_smaller, Known, recursive_variable, known_smaller, SmallerParts, no_smaller_part, smaller_part, SmallerBranches, no_smaller_branch, smaller_branch, smaller_plain_branch, Fine, fine_variable, fine_call, fine_parts, fine_match_on_smaller, AllFine, none_fine, more_fine, FineParts, no_fine_part, fine_part, FineBranches, no_fine_branch, fine_branch, fine_plain_branch}
 use Rattle.cic_laws.specs.Substitution.{rename, substitution_under_one, substitution_under, substitute, substitute_children, lifted_variable}
 use Rattle.cic_laws.specs.Guards.{WithoutFunctions, no_function, in_no_part, PartsWithoutFunctions, no_part, part_without, FitsMark, for_plain, same_mark, KeepsMarks, FitsMarks}
 use Rattle.cic_laws.proofs.Composition.{rename_as_substitute}
@@ -93,7 +93,7 @@ module _ (recursive : GlobalId → ℕ → Option (List Mark)) (places : List �
     substitute_fine (fine_parts c) s f' h = fine_parts (substitute_fine_parts c s f' h)
     substitute_fine (fine_match_on_smaller {marks = f} {n = n} {p = p} k m v c) s f' h =
         let fits : FitsMarks (substitution_under (over (more n) 0) s) (under_plain (n + 1) f) (under_plain (n + 1) f') =
-            rw (motive_binders n) (fits_under_plain (n + 1) f s f' h) in
+        rw (motive_binders n) (fits_under_plain (n + 1) f s f' h) in
         fine_match_on_smaller (substitute_known k s f' h)
         (substitute_fine m (substitution_under (over (more n) 0) s) (under_plain (n + 1) f') fits)
         (substitute_fine v s f' h) (substitute_fine_branches c s f' h)
@@ -124,14 +124,14 @@ module _ (recursive : GlobalId → ℕ → Option (List Mark)) (places : List �
   renaming_fits : (r : ℕ → ℕ) (f f' : Marks) → KeepsMarks r f f' → FitsMarks (λ x. rel (r x)) f f'
   renaming_fits r f f' h x = same_mark (h x)
 
-  pub rename_smaller : (r : ℕ → ℕ) (f f' : Marks) (t : Tree) → KeepsMarks r f f' → Smaller recursive places f t → Smaller recursive places f' (rename r t)
-  rename_smaller r f f' t h c = rw (rename_as_substitute t r) (substitute_smaller c (λ x. rel (r x)) f' (renaming_fits r f f' h))
+  pub rename_smaller : {f : Marks} {t : Tree} → Smaller recursive places f t → (r : ℕ → ℕ) (f' : Marks) → KeepsMarks r f f' → Smaller recursive places f' (rename r t)
+  rename_smaller {f = f} {t = t} c r f' h = rw (rename_as_substitute t r) (substitute_smaller c (λ x. rel (r x)) f' (renaming_fits r f f' h))
 
-  pub rename_fine : (r : ℕ → ℕ) (f f' : Marks) (t : Tree) → KeepsMarks r f f' → Fine recursive places f t → Fine recursive places f' (rename r t)
-  rename_fine r f f' t h c = rw (rename_as_substitute t r) (substitute_fine c (λ x. rel (r x)) f' (renaming_fits r f f' h))
+  pub rename_fine : {f : Marks} {t : Tree} → Fine recursive places f t → (r : ℕ → ℕ) (f' : Marks) → KeepsMarks r f f' → Fine recursive places f' (rename r t)
+  rename_fine {f = f} {t = t} c r f' h = rw (rename_as_substitute t r) (substitute_fine c (λ x. rel (r x)) f' (renaming_fits r f f' h))
 
-  pub lift_fine : (from by : ℕ) (f f' : Marks) (t : Tree) → KeepsMarks (lifted_variable from by) f f' → Fine recursive places f t → Fine recursive places f' (lift_tree from by t)
-  lift_fine from by f f' t h c = rw (lift_renames_variables from by t) (rename_fine (lifted_variable from by) f f' t h c)
+  pub lift_fine : {f : Marks} {t : Tree} → Fine recursive places f t → (from by : ℕ) (f' : Marks) → KeepsMarks (lifted_variable from by) f f' → Fine recursive places f' (lift_tree from by t)
+  lift_fine {t = t} c from by f' h = rw (lift_renames_variables from by t) (rename_fine c (lifted_variable from by) f' h)
 
-  pub subst_fine : (at : ℕ) (u : Tree) (f f' : Marks) (t : Tree) → FitsMarks (subst_rel at u) f f' → Fine recursive places f t → Fine recursive places f' (subst_tree at u t)
-  subst_fine at u f f' t h c = rw (subst_substitutes_variables at u t) (substitute_fine c (subst_rel at u) f' h)
+  pub subst_fine : {f : Marks} {t : Tree} → Fine recursive places f t → (at : ℕ) (u : Tree) (f' : Marks) → FitsMarks (subst_rel at u) f f' → Fine recursive places f' (subst_tree at u t)
+  subst_fine {t = t} c at u f' h = rw (subst_substitutes_variables at u t) (substitute_fine c (subst_rel at u) f' h)

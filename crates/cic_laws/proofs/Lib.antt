@@ -10,3 +10,4 @@ pub mod Commuting
 pub mod GuardsGrowth
 pub mod GuardsFitting
 pub mod GuardsSubstitution
+pub mod GuardsFunctions

@@ -47,36 +47,35 @@ KeepsMarks r marks marks' = (x : ℕ) → marks' (r x) ≡ marks x
 abbrev pub FitsMarks : (ℕ → Tree) → Marks → Marks → Type 0
 FitsMarks s marks marks' = (x : ℕ) → FitsMark marks' (marks x) (s x)
 
--- Domains, each under the earlier ones.
-abbrev pub renamed_domains : (ℕ → ℕ) → List Tree → List Tree
-renamed_domains r [] = []
-renamed_domains r (a ∷ as_) = rename r a ∷ renamed_domains (renaming_under_one r) as_
+-- A renaming, and a substitution, in domains, each of which stands under the earlier ones.
+abbrev pub rename_domains : (ℕ → ℕ) → List Tree → List Tree
+rename_domains r [] = []
+rename_domains r (a ∷ as_) = rename r a ∷ rename_domains (renaming_under_one r) as_
 
-abbrev pub substituted_domains : (ℕ → Tree) → List Tree → List Tree
-substituted_domains s [] = []
-substituted_domains s (a ∷ as_) = substitute s a ∷ substituted_domains (substitution_under_one s) as_
+abbrev pub substitute_domains : (ℕ → Tree) → List Tree → List Tree
+substitute_domains s [] = []
+substitute_domains s (a ∷ as_) = substitute s a ∷ substitute_domains (substitution_under_one s) as_
 
--- A function of a Fix with `all` functions: the codomain stands under the domains, the body under all
--- functions and then the domains.
-abbrev pub renamed_function : (all : ℕ) → (ℕ → ℕ) → Function → Function
-renamed_function all r f = record {
+-- The same in a function of a Fix with `all` functions, and in all of them: the codomain stands under the
+-- domains, the body under all functions and then the domains.
+abbrev pub rename_function : (all : ℕ) → (ℕ → ℕ) → Function → Function
+rename_function all r f = record {
   k = f.k;
-  domains = renamed_domains r f.domains;
+  domains = rename_domains r f.domains;
   codomain = rename (renaming_under (length f.domains) r) f.codomain;
   body = rename (renaming_under (all + length f.domains) r) f.body;
 }
 
-abbrev pub substituted_function : (all : ℕ) → (ℕ → Tree) → Function → Function
-substituted_function all s f = record {
+abbrev pub substitute_function : (all : ℕ) → (ℕ → Tree) → Function → Function
+substitute_function all s f = record {
   k = f.k;
-  domains = substituted_domains s f.domains;
+  domains = substitute_domains s f.domains;
   codomain = substitute (substitution_under (length f.domains) s) f.codomain;
   body = substitute (substitution_under (all + length f.domains) s) f.body;
 }
 
--- All functions of a Fix.
-abbrev pub renamed_functions : (ℕ → ℕ) → List Function → List Function
-renamed_functions r fs = map (renamed_function (length fs) r) fs
+abbrev pub rename_functions : (ℕ → ℕ) → List Function → List Function
+rename_functions r fs = map (rename_function (length fs) r) fs
 
-abbrev pub substituted_functions : (ℕ → Tree) → List Function → List Function
-substituted_functions s fs = map (substituted_function (length fs) s) fs
+abbrev pub substitute_functions : (ℕ → Tree) → List Function → List Function
+substitute_functions s fs = map (substitute_function (length fs) s) fs
