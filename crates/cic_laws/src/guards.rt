@@ -24,3 +24,14 @@ pub fn guard_stays_under_renaming()
     ensures smaller_terms { (recursive : GlobalId → ℕ → Option (List Mark)) (places : List ℕ) (r : ℕ → ℕ) (marks marks' : Marks) (t : Tree) → KeepsMarks r marks marks' → Smaller recursive places marks t → Smaller recursive places marks' (rename r t) }
     ensures lift { (recursive : GlobalId → ℕ → Option (List Mark)) (places : List ℕ) (from by : ℕ) (marks marks' : Marks) (t : Tree) → KeepsMarks (lifted_variable from by) marks marks' → Fine recursive places marks t → Fine recursive places marks' (lift_tree from by t) }
 {}
+
+/// A guarded Fix stays guarded under every substitution, since outside of it no variable is marked. Its
+/// terms are so under each substitution that puts in a variable with the same mark for a marked one, and
+/// a term without functions of the Fix for a plain one.
+#[tactic(auto, using(crate::proofs::GuardsFunctions::guarded_substitute, crate::proofs::GuardsSubstitution::substitute_fine, crate::proofs::GuardsSubstitution::substitute_smaller, crate::proofs::GuardsSubstitution::subst_fine))]
+pub fn guard_stays_under_substitution()
+    ensures functions { (E : Environment) (s : ℕ → Tree) (fs : List Function) → Guarded E fs → Guarded E (substitute_functions s fs) }
+    ensures fine { (recursive : GlobalId → ℕ → Option (List Mark)) (places : List ℕ) (s : ℕ → Tree) (marks marks' : Marks) (t : Tree) → FitsMarks s marks marks' → Fine recursive places marks t → Fine recursive places marks' (substitute s t) }
+    ensures smaller_terms { (recursive : GlobalId → ℕ → Option (List Mark)) (places : List ℕ) (s : ℕ → Tree) (marks marks' : Marks) (t : Tree) → FitsMarks s marks marks' → Smaller recursive places marks t → Smaller recursive places marks' (substitute s t) }
+    ensures at_place { (recursive : GlobalId → ℕ → Option (List Mark)) (places : List ℕ) (at : ℕ) (u : Tree) (marks marks' : Marks) (t : Tree) → FitsMarks (subst_rel at u) marks marks' → Fine recursive places marks t → Fine recursive places marks' (subst_tree at u t) }
+{}
