@@ -11,3 +11,5 @@ pub mod GuardsGrowth
 pub mod GuardsFitting
 pub mod GuardsSubstitution
 pub mod GuardsFunctions
+pub mod GuardsPositivity
+pub mod GuardsEnvironments
