@@ -7,3 +7,9 @@ pub mod BudgetsSteps
 pub mod Composition
 pub mod LiftAndSubst
 pub mod Commuting
+pub mod GuardsGrowth
+pub mod GuardsFitting
+pub mod GuardsSubstitution
+pub mod GuardsFunctions
+pub mod GuardsPositivity
+pub mod GuardsEnvironments

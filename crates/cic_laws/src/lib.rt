@@ -3,4 +3,5 @@
 #![tactic(auto)]
 
 pub mod budgets;
+pub mod guards;
 pub mod substitution;
