@@ -1,5 +1,7 @@
+pub mod Closed
+pub mod ClosedEvaluation
+pub mod ClosedTyping
+pub mod ClosedChecking
 pub mod BudgetsCalls
-pub mod BudgetsEvaluation
-pub mod BudgetsTyping
-pub mod BudgetsChecking
 pub mod BudgetsSteps
+pub mod BudgetsChecking
