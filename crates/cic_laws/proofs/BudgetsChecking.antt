@@ -43,28 +43,22 @@ pub steps_within : (E : Environment) (d : Declaration) (budget : ℕ) (found : F
 unfolding check_declaration
 steps_within E d budget found e = steps_of_answer budget _ found e
 
-pub check_spent_below : (E : Environment) (d : Declaration) (budget smaller : ℕ) (found : Found) → check_declaration E d budget ≡ accepts found → smaller < found.steps → check_declaration E d smaller ≡ rejects spent
-check_spent_below E d budget smaller found e l = by_answer (check_declaration E d smaller) refl
-  where
-    same : check_declaration E d smaller ≢ rejects spent → check_declaration E d smaller ≡ accepts found
-    same n =
-        let w = steps_within E d budget found e in
-        sym (check_stays E d smaller budget n (omega (arith, w, l))) ∙ e
+-- An answer that cannot but be spent is spent.
+spent_of_not : (a : Answer) → ¬ (a ≢ rejects spent) → a ≡ rejects spent
+spent_of_not (accepts f) h = absurd (h (λ e. cc))
+spent_of_not (rejects spent) h = refl
+spent_of_not (rejects deep) h = absurd (h (λ e. cc))
+spent_of_not (rejects (refused c)) h = absurd (h (λ e. cc))
 
-    by_answer : (a : Answer) → check_declaration E d smaller ≡ a → check_declaration E d smaller ≡ rejects spent
-    by_answer (accepts f) q =
-        let r = same (λ z. let u : accepts f ≡ rejects spent = sym q ∙ z in cc) in
-        let w = steps_within E d smaller found r in
-        absurd (omega (arith, w, l))
-    by_answer (rejects spent) q = q
-    by_answer (rejects deep) q =
-        let r = same (λ z. let u : rejects deep ≡ rejects spent = sym q ∙ z in cc) in
-        let u : rejects deep ≡ accepts found = sym q ∙ r in
-        cc
-    by_answer (rejects (refused c)) q =
-        let r = same (λ z. let u : rejects (refused c) ≡ rejects spent = sym q ∙ z in cc) in
-        let u : rejects (refused c) ≡ accepts found = sym q ∙ r in
-        cc
+pub check_spent_below : (E : Environment) (d : Declaration) (budget smaller : ℕ) (found : Found) → check_declaration E d budget ≡ accepts found → smaller < found.steps → check_declaration E d smaller ≡ rejects spent
+check_spent_below E d budget smaller found e l = spent_of_not (check_declaration E d smaller) (λ n.
+    let enough = steps_within E d budget found e in
+    let same : check_declaration E d smaller ≡ accepts found = sym (check_stays E d smaller budget n (omega (arith, enough, l))) ∙ e in
+    let fewer = steps_within E d smaller found same in
+    omega (arith, fewer, l))
+
+pub check_spent_lowered : (E : Environment) (d : Declaration) (budget smaller : ℕ) → check_declaration E d budget ≡ rejects spent → smaller ≤ budget → check_declaration E d smaller ≡ rejects spent
+check_spent_lowered E d budget smaller e l = spent_of_not (check_declaration E d smaller) (λ n. n (sym (check_stays E d smaller budget n l) ∙ e))
 
 -- Accepted within a budget, and so within another that has as many as the steps.
 accepted_within : (m : Counted Split) → Settles Split m → (budget other : ℕ) (o : Outcome Split) (found : Found) → m (record { rest = budget; found = [] }) ≡ o → answer_of budget o ≡ accepts found → found.steps ≤ other → answer_of other (m (record { rest = other; found = [] })) ≡ accepts found

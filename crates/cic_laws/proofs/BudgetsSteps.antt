@@ -9,7 +9,7 @@ use Rattle.cic_counted.specs.Outcome.{Budget, Outcome, done, stops, refused, dee
 use Rattle.cic_counted.specs.Evaluation.{whnf_at}
 use Rattle.cic_counted.proofs.Taken.{follow_done, done_value, done_rest, whnf_done}
 use Rattle.cic_counted.proofs.Runs.{whnf_runs}
-use Rattle.cic_laws.specs.Budgets.{raised, raised_outcome, with_rest, HasSteps}
+use Rattle.cic_laws.specs.Budgets.{raised_outcome, with_rest, HasSteps}
 use Rattle.cic_laws.proofs.Closed.{Closed}
 use Rattle.cic_laws.proofs.BudgetsCalls.{Persists}
 
@@ -79,31 +79,29 @@ whnf_settles k E G t = record {
       (c.steps, h.3.rest, λ r l. whnf_runs E G k t v c (with_rest r b) h.1 h.2 l ∙ ap (λ z. done v (left (r - c.steps) z)) (sym h.3.found));
 }
 
+-- An outcome that cannot but be spent is spent.
+spent_of_not : {A : Type 0} (o : Outcome A) → ¬ (o ≢ stops spent) → o ≡ stops spent
+spent_of_not (done a b) h = absurd (h (λ e. cc))
+spent_of_not (stops spent) h = refl
+spent_of_not (stops deep) h = absurd (h (λ e. cc))
+spent_of_not (stops (refused c)) h = absurd (h (λ e. cc))
+
+-- What is done with more left has at least as much left.
+left_of_raised : {A : Type 0} (more : ℕ) (o : Outcome A) (a : A) (b : Budget) → raised_outcome more o ≡ done a b → more ≤ b.rest
+left_of_raised more (done v c) a b e =
+    let rest : c.rest + more ≡ b.rest = ap (λ z. z.rest) (done_rest e) in
+    omega (arith, rest)
+left_of_raised more (stops s) a b e = cc
+
 -- A call that persists is spent below its steps: were it not, it would take as few within the budget that
 -- it is done with.
 spent_below : {A : Type 0} {m : Counted A} → Persists A m → (a : A) (b b' : Budget) (s r : ℕ) → b.rest ≡ s + b'.rest → m b ≡ done a b' → r < s → m (with_rest r b) ≡ stops spent
-spent_below {A = A} {m = m} p a b b' s r k e l = by_outcome (m (with_rest r b)) refl
-  where
-    lifted : m (with_rest r b) ≢ stops spent → m b ≡ raised_outcome (b.rest - r) (m (with_rest r b))
-    lifted n =
-        let whole : r + (b.rest - r) ≡ b.rest = omega (arith, k, l) in
-        subst (λ z. m (with_rest z b) ≡ raised_outcome (b.rest - r) (m (with_rest r b))) whole (p.more (with_rest r b) (b.rest - r) n)
-
-    by_outcome : (o : Outcome A) → m (with_rest r b) ≡ o → m (with_rest r b) ≡ stops spent
-    by_outcome (done v c) q =
-        let n : m (with_rest r b) ≢ stops spent = λ z. let u : done v c ≡ stops spent = sym q ∙ z in cc in
-        let same : done a b' ≡ done v (raised (b.rest - r) c) = sym e ∙ lifted n ∙ ap (raised_outcome (b.rest - r)) q in
-        let rest : b'.rest ≡ c.rest + (b.rest - r) = ap (λ z. z.rest) (done_rest same) in
-        absurd (omega (arith, rest, k, l))
-    by_outcome (stops spent) q = q
-    by_outcome (stops deep) q =
-        let n : m (with_rest r b) ≢ stops spent = λ z. let u : stops deep ≡ stops spent = sym q ∙ z in cc in
-        let same : done a b' ≡ stops deep = sym e ∙ lifted n ∙ ap (raised_outcome (b.rest - r)) q in
-        cc
-    by_outcome (stops (refused c)) q =
-        let n : m (with_rest r b) ≢ stops spent = λ z. let u : stops (refused c) ≡ stops spent = sym q ∙ z in cc in
-        let same : done a b' ≡ stops (refused c) = sym e ∙ lifted n ∙ ap (raised_outcome (b.rest - r)) q in
-        cc
+spent_below {m = m} p a b b' s r k e l = spent_of_not (m (with_rest r b)) (λ n.
+    let whole : r + (b.rest - r) ≡ b.rest = omega (arith, k, l) in
+    let same : m b ≡ raised_outcome (b.rest - r) (m (with_rest r b)) =
+    subst (λ z. m (with_rest z b) ≡ raised_outcome (b.rest - r) (m (with_rest r b))) whole (p.more (with_rest r b) (b.rest - r) n) in
+    let enough : b.rest - r ≤ b'.rest = left_of_raised (b.rest - r) (m (with_rest r b)) a b' (sym same ∙ e) in
+    omega (arith, enough, k, l))
 
 pub has_steps : {A : Type 0} {m : Counted A} → Persists A m → Settles A m → HasSteps m
 has_steps p q a b b' e =
