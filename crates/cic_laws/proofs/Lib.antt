@@ -1,8 +1,9 @@
 -- The proofs of the laws, by subject.
+pub mod Closed
+pub mod ClosedEvaluation
+pub mod ClosedTyping
+pub mod ClosedChecking
 pub mod BudgetsCalls
-pub mod BudgetsEvaluation
-pub mod BudgetsTyping
-pub mod BudgetsChecking
 pub mod BudgetsSteps
 pub mod Composition
 pub mod LiftAndSubst
@@ -13,3 +14,4 @@ pub mod GuardsSubstitution
 pub mod GuardsFunctions
 pub mod GuardsPositivity
 pub mod GuardsEnvironments
+pub mod BudgetsChecking

@@ -33,9 +33,11 @@ pub fn greater_budget_accepts_the_same()
     ensures { (E : Environment) (d : Declaration) (budget greater : ℕ) (found : Found) → check_declaration E d budget ≡ accepts found → budget ≤ greater → check_declaration E d greater ≡ accepts found }
 {}
 
-/// Within a budget below the steps of an accepted declaration, its check is spent.
+/// Within a budget below the steps of an accepted declaration, its check is spent; and where it is spent, it
+/// is spent within every smaller budget.
 pub fn spent_below_the_steps()
-    ensures { (E : Environment) (d : Declaration) (budget smaller : ℕ) (found : Found) → check_declaration E d budget ≡ accepts found → smaller < found.steps → check_declaration E d smaller ≡ rejects spent }
+    ensures below { (E : Environment) (d : Declaration) (budget smaller : ℕ) (found : Found) → check_declaration E d budget ≡ accepts found → smaller < found.steps → check_declaration E d smaller ≡ rejects spent }
+    ensures lowered { (E : Environment) (d : Declaration) (budget smaller : ℕ) → check_declaration E d budget ≡ rejects spent → smaller ≤ budget → check_declaration E d smaller ≡ rejects spent }
 {}
 
 /// An answer other than spent stays when the budget is raised: acceptance, a refusal with its cause, and

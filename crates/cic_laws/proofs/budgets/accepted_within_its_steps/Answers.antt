@@ -1,5 +1,4 @@
-use Rattle.cic_laws.proofs.BudgetsChecking.{steps_within}
-use Rattle.cic_laws.proofs.BudgetsSteps.{check_accepts_within}
+use Rattle.cic_laws.proofs.BudgetsChecking.{check_accepts_within, steps_within}
 use Rattle.cic_laws.proofs.budgets.accepted_within_its_steps.Goals as goal
 
 pub returns-clause-steps : goal.returns-clause-steps

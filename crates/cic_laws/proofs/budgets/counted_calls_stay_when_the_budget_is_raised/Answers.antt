@@ -1,21 +1,22 @@
-use Rattle.cic_laws.proofs.BudgetsEvaluation.{persists_whnf, persists_conv, persists_cumul}
-use Rattle.cic_laws.proofs.BudgetsTyping.{calls_persist}
+use Rattle.cic_laws.proofs.ClosedEvaluation.{holds_conv, holds_cumul}
+use Rattle.cic_laws.proofs.ClosedTyping.{holds_calls}
+use Rattle.cic_laws.proofs.BudgetsCalls.{persists_closed, whnf_persists}
 use Rattle.cic_laws.proofs.budgets.counted_calls_stay_when_the_budget_is_raised.Goals as goal
 
 pub returns-clause-evaluation : goal.returns-clause-evaluation
-returns-clause-evaluation c = λ E G k t. (persists_whnf k E G t).more
+returns-clause-evaluation c = λ E G k t. (whnf_persists k E G t).more
 
 pub returns-clause-conversion : goal.returns-clause-conversion
-returns-clause-conversion c = λ E G k t u. (persists_conv k E G t u).more
+returns-clause-conversion c = λ E G k t u. (holds_conv persists_closed whnf_persists k E G t u).more
 
 pub returns-clause-subtyping : goal.returns-clause-subtyping
-returns-clause-subtyping c = λ E G k t u. (persists_cumul k E G t u).more
+returns-clause-subtyping c = λ E G k t u. (holds_cumul persists_closed whnf_persists k E G t u).more
 
 pub returns-clause-inference : goal.returns-clause-inference
-returns-clause-inference c = λ E G k t. ((calls_persist k E).infer G t).more
+returns-clause-inference c = λ E G k t. ((holds_calls persists_closed whnf_persists k E).infer G t).more
 
 pub returns-clause-check : goal.returns-clause-check
-returns-clause-check c = λ E G k t T. ((calls_persist k E).check G t T).more
+returns-clause-check c = λ E G k t T. ((holds_calls persists_closed whnf_persists k E).check G t T).more
 
 pub returns-clause-sort : goal.returns-clause-sort
-returns-clause-sort c = λ E G k t. ((calls_persist k E).sort_of G t).more
+returns-clause-sort c = λ E G k t. ((holds_calls persists_closed whnf_persists k E).sort_of G t).more
