@@ -1,3 +1,9 @@
 pub mod Composition
 pub mod LiftAndSubst
 pub mod Commuting
+pub mod Telescopes
+pub mod Contexts
+pub mod Steps
+pub mod Conversions
+pub mod Weakening
+pub mod Stability

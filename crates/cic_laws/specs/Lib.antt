@@ -1,1 +1,2 @@
 pub mod Substitution
+pub mod Growth

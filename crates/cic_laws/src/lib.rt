@@ -1,8 +1,13 @@
 //! Laws about the rules of the logic, each the contract of a function that does nothing.
 #![tactic(auto)]
 
+mod conversion;
 mod substitution;
 
+pub use conversion::{
+    growth_keeps_conversion, instance_keeps_conversion, renaming_keeps_conversion,
+    substitution_keeps_conversion, weakening_keeps_conversion,
+};
 pub use substitution::{
     lift_after_lift, lift_and_subst, lift_renames, renaming_and_substitution, subst_after_lift,
     subst_after_subst, subst_substitutes,
