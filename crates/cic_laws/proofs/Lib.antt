@@ -7,3 +7,4 @@ pub mod Steps
 pub mod Conversions
 pub mod Weakening
 pub mod Stability
+pub mod Guards

@@ -8,10 +8,10 @@ use Rattle.cic_terms.specs.Lift.{lift_tree}
 use Rattle.cic_rules.specs.Environment.{Environment, Context, defined, under_unknown}
 use Rattle.cic_rules.specs.Step.{Step, beta, zeta, delta_variable, delta_constant, iota_match, iota_fix, inside, in_rest, StepInside, here, there}
 use Rattle.cic_rules.specs.Telescopes.{apply, fixpoint, unfolded}
-use Rattle.cic_laws.specs.Substitution.{substitution_under_one, substitution_under, substitute, substitute_children}
+use Rattle.cic_laws.specs.Substitution.{substitution_under_one, substitution_under, substitute, substitute_children, substitute_function}
 use Rattle.cic_laws.proofs.Composition.{substitute_rename, rename_as_substitute}
 use Rattle.cic_laws.proofs.LiftAndSubst.{lift_adds, substitute_subst_innermost}
-use Rattle.cic_laws.proofs.Telescopes.{substitute_several, substitute_constructor, substitute_before_constructor, substitute_branch_of, element_map, substitute_function, substitute_fixpoint, substitute_unfolded}
+use Rattle.cic_laws.proofs.Telescopes.{substitute_several, substitute_constructor, substitute_before_constructor, substitute_branch_of, element_map, substitute_fixpoint, substitute_unfolded}
 use Rattle.cic_laws.proofs.Contexts.{Kind, Moves, good_under}
 
 -- What is lifted past a context is lifted past the other.

@@ -3,12 +3,12 @@
 use Rattle.std.proofs.Common.{◌≡◌, ℕ, zero, suc, ◌+◌, List, [], ◌∷◌, ◌++◌, length, map, Option, Some, None, refl, sym, ap, ap₂, ◌∙◌, arith}
 use Rattle.std.proofs.lemmas.Bool.Decides.{nat_tests}
 use Rattle.std.proofs.lemmas.List.{length-map, map-append}
-use Rattle.cic_terms.specs.Tree.{FixF, many, over, Tree, node, Children, no_child, child, lam, app, ctor, join}
+use Rattle.cic_terms.specs.Tree.{FixF, many, over, Tree, node, Children, no_child, child, lam, app, ctor, join, ind}
 use Rattle.cic_terms.specs.Lift.{lift_tree, subst_tree}
 use Rattle.cic_terms.specs.declared.name.GlobalId.{GlobalId}
 use Rattle.cic_rules.specs.Environment.{element}
 use Rattle.cic_rules.specs.Telescopes.{apply, abstractions, substitute_all, lift_domains, BranchParts, branch_at, Function, domain_parts, function_parts, function_shapes, fixpoint, full_body, each_fixpoint, unfolded}
-use Rattle.cic_laws.specs.Substitution.{renaming_under, rename, substitution_under_one, substitution_under, substitute, substitute_children}
+use Rattle.cic_laws.specs.Substitution.{renaming_under, rename, substitution_under_one, substitution_under, substitute, substitute_children, substitute_domains, substitute_function}
 use Rattle.cic_laws.proofs.Composition.{rename_rename, rename_identity, substitute_rename, substitute_rename_under, rename_substitute, rename_substitute_under}
 use Rattle.cic_laws.proofs.LiftAndSubst.{lift_is_rename, lifted_under, substitute_subst}
 
@@ -25,7 +25,7 @@ pub one_more_under : (n : ℕ) (s : ℕ → Tree) → substitution_under_one (su
 unfolding substitution_under
 one_more_under n s = under_twice n 1 s
 
-none_and_under : (n : ℕ) (s : ℕ → Tree) → substitution_under (0 + n) s ≡ substitution_under n s
+pub none_and_under : (n : ℕ) (s : ℕ → Tree) → substitution_under (0 + n) s ≡ substitution_under n s
 none_and_under n s = let e : 0 + n ≡ n = omega arith in ap (λ m. substitution_under m s) e
 
 -- What stands past the binders is lifted past them.
@@ -74,6 +74,10 @@ pub substitute_constructor : (c : GlobalId) (us : List Tree) (s : ℕ → Tree) 
 unfolding substitute
 substitute_constructor c us s = substitute_apply us (ctor c) s
 
+pub substitute_inductive : (c : GlobalId) (us : List Tree) (s : ℕ → Tree) → substitute s (apply (ind c) us) ≡ apply (ind c) (map (substitute s) us)
+unfolding substitute
+substitute_inductive c us s = substitute_apply us (ind c) s
+
 pub substitute_before_constructor : (f : Tree) (us vs : List Tree) (c : GlobalId) (s : ℕ → Tree) →
     substitute s (apply f (us ++ apply (ctor c) vs ∷ [])) ≡ apply (substitute s f) (map (substitute s) us ++ apply (ctor c) (map (substitute s) vs) ∷ [])
 substitute_before_constructor f us vs c s =
@@ -111,10 +115,6 @@ substitute_branch_of ks i us b s e =
     ∙ ap (λ n. Some (record { binders = n; body = substitute (substitution_under (length us) s) b })) (sym (length-map us (substitute s)))
 
 -- Domains, each under the earlier ones
-abbrev pub substitute_domains : (ℕ → Tree) → List Tree → List Tree
-substitute_domains s [] = []
-substitute_domains s (a ∷ as_) = substitute s a ∷ substitute_domains (substitution_under_one s) as_
-
 pub length_substitute_domains : (as_ : List Tree) (s : ℕ → Tree) → length (substitute_domains s as_) ≡ length as_
 length_substitute_domains [] s = refl
 length_substitute_domains (a ∷ as_) s = ap suc (length_substitute_domains as_ (substitution_under_one s))
@@ -151,15 +151,7 @@ unfolding substitute
 substitute_join no_child ls s = refl
 substitute_join (child b t ks) ls s = ap (child b (substitute (substitution_under (over b 0) s) t)) (substitute_join ks ls s)
 
--- Functions of a Fix, of which there are `all`
-abbrev pub substitute_function : (all : ℕ) → (ℕ → Tree) → Function → Function
-substitute_function all s f = record {
-  k = f.k;
-  domains = substitute_domains s f.domains;
-  codomain = substitute (substitution_under (length f.domains) s) f.codomain;
-  body = substitute (substitution_under (all + length f.domains) s) f.body;
-}
-
+-- Functions of a Fix
 substitute_function_parts : (fs : List Function) (all : ℕ) (s : ℕ → Tree) →
     substitute_children s (function_parts all fs) ≡ function_parts all (map (substitute_function all s) fs)
 unfolding substitute substitution_under
@@ -198,7 +190,7 @@ length_each_fixpoint : (count which : ℕ) (fs : List Function) → length (each
 length_each_fixpoint zero which fs = refl
 length_each_fixpoint (suc count) which fs = ap suc (length_each_fixpoint count (which + 1) fs)
 
-substitute_full_body : (all : ℕ) (f : Function) (s : ℕ → Tree) →
+pub substitute_full_body : (all : ℕ) (f : Function) (s : ℕ → Tree) →
     substitute (substitution_under all s) (full_body all f) ≡ full_body all (substitute_function all s f)
 unfolding substitution_under
 substitute_full_body all f s =

@@ -2,12 +2,14 @@
 #![tactic(auto)]
 
 mod conversion;
+mod guard;
 mod substitution;
 
 pub use conversion::{
     growth_keeps_conversion, instance_keeps_conversion, renaming_keeps_conversion,
     substitution_keeps_conversion, weakening_keeps_conversion,
 };
+pub use guard::substitution_keeps_guard;
 pub use substitution::{
     lift_after_lift, lift_and_subst, lift_renames, renaming_and_substitution, subst_after_lift,
     subst_after_subst, subst_substitutes,
