@@ -8,3 +8,4 @@ pub mod Conversions
 pub mod Weakening
 pub mod Stability
 pub mod Guards
+pub mod Typing

@@ -152,7 +152,7 @@ substitute_join no_child ls s = refl
 substitute_join (child b t ks) ls s = ap (child b (substitute (substitution_under (over b 0) s) t)) (substitute_join ks ls s)
 
 -- Functions of a Fix
-substitute_function_parts : (fs : List Function) (all : ℕ) (s : ℕ → Tree) →
+pub substitute_function_parts : (fs : List Function) (all : ℕ) (s : ℕ → Tree) →
     substitute_children s (function_parts all fs) ≡ function_parts all (map (substitute_function all s) fs)
 unfolding substitute substitution_under
 substitute_function_parts [] all s = refl
@@ -168,7 +168,7 @@ substitute_function_parts (f ∷ fs) all s =
     (ap₂ (child (many n)) one_term (ap₂ (child (many (all + n))) body others)
     ∙ ap (λ m. child (many m) (substitute (substitution_under n s) f.codomain) (child (many (all + m)) (substitute (substitution_under (all + n) s) f.body) (function_parts all (map (substitute_function all s) fs)))) (sym count))
 
-substitute_shapes : (fs : List Function) (all : ℕ) (s : ℕ → Tree) → function_shapes (map (substitute_function all s) fs) ≡ function_shapes fs
+pub substitute_shapes : (fs : List Function) (all : ℕ) (s : ℕ → Tree) → function_shapes (map (substitute_function all s) fs) ≡ function_shapes fs
 substitute_shapes [] all s = refl
 substitute_shapes (f ∷ fs) all s =
     ap₂ (λ n z. record { k = f.k; domains = n } ∷ z) (length_substitute_domains f.domains s) (substitute_shapes fs all s)

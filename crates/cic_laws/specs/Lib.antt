@@ -1,2 +1,3 @@
 pub mod Substitution
 pub mod Growth
+pub mod TypedContexts
