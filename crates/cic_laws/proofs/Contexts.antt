@@ -11,7 +11,7 @@ use Rattle.cic_laws.specs.Growth.{Grows, HasBody}
 use Rattle.cic_laws.proofs.Composition.{rename_rename}
 use Rattle.cic_laws.proofs.LiftAndSubst.{lift_adds, lift_by_one}
 
-lift_past_one_more : (t : Tree) (x : ℕ) → lift_tree 0 (suc x + 1) t ≡ rename suc (lift_tree 0 (x + 1) t)
+pub lift_past_one_more : (t : Tree) (x : ℕ) → lift_tree 0 (suc x + 1) t ≡ rename suc (lift_tree 0 (x + 1) t)
 lift_past_one_more t x =
     lift_adds (suc x + 1) t
     ∙ sym (rename_rename t suc (λ y. y + (x + 1)) (λ y. y + (suc x + 1)) (λ y. omega arith))

@@ -9,3 +9,4 @@ pub mod Weakening
 pub mod Stability
 pub mod Guards
 pub mod Typing
+pub mod TypedWeakening

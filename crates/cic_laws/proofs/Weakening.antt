@@ -17,18 +17,18 @@ pub record Renaming (s : ℕ → Tree) (G D : Context) : Type 0 where
   pub is_renaming : (x : ℕ) → s x ≡ rel (renaming x)
   pub leads : RenamesContext renaming G D
 
-substitute_by_renaming : (s : ℕ → Tree) (r : ℕ → ℕ) (t : Tree) → ((x : ℕ) → s x ≡ rel (r x)) → substitute s t ≡ rename r t
+pub substitute_by_renaming : (s : ℕ → Tree) (r : ℕ → ℕ) (t : Tree) → ((x : ℕ) → s x ≡ rel (r x)) → substitute s t ≡ rename r t
 substitute_by_renaming s r t h =
     ap (substitute s) (sym (rename_identity t (λ x. x) (λ x. refl)))
     ∙ substitute_rename t s (λ x. x) (λ x. rel (r x)) h
     ∙ sym (rename_as_substitute t r)
 
-rename_past_binder : (r : ℕ → ℕ) (t : Tree) → rename (renaming_under_one r) (rename suc t) ≡ rename suc (rename r t)
+pub rename_past_binder : (r : ℕ → ℕ) (t : Tree) → rename (renaming_under_one r) (rename suc t) ≡ rename suc (rename r t)
 unfolding renaming_under_one
 rename_past_binder r t =
     rename_rename t (renaming_under_one r) suc (λ x. suc (r x)) (λ x. refl) ∙ sym (rename_rename t suc r (λ x. suc (r x)) (λ x. refl))
 
-renames_bodies_under : (r : ℕ → ℕ) (G D : Context) (e e' : Entry) → ((b : Tree) → e.body ≡ Some b → e'.body ≡ Some (rename r b)) → RenamesContext r G D →
+pub renames_bodies_under : (r : ℕ → ℕ) (G D : Context) (e e' : Entry) → ((b : Tree) → e.body ≡ Some b → e'.body ≡ Some (rename r b)) → RenamesContext r G D →
     (x : ℕ) (t : Tree) → HasBody (e ∷ G) x t → HasBody (e' ∷ D) (renaming_under_one r x) (rename (renaming_under_one r) t)
 unfolding renaming_under_one
 renames_bodies_under r G D e e' he h zero t a =
@@ -38,17 +38,17 @@ renames_bodies_under r G D e e' he h (suc x) t a =
     let c = from_body_there G e x t a in
     rw (c.2, rename_past_binder r c.0) (body_there D e' (r x) (rename r c.0) (h.bodies x c.0 c.1))
 
-outside_under : (r : ℕ → ℕ) (m n k : ℕ) → r (k + m) ≡ k + n → renaming_under_one r (k + suc m) ≡ k + suc n
+pub outside_under : (r : ℕ → ℕ) (m n k : ℕ) → r (k + m) ≡ k + n → renaming_under_one r (k + suc m) ≡ k + suc n
 unfolding renaming_under_one
 outside_under r m n k h =
     let e : k + suc m ≡ suc (k + m) = omega arith in ap (renaming_under_one r) e ∙ ap suc h ∙ omega arith
 
-renaming_stays_under_one : (s : ℕ → Tree) (r : ℕ → ℕ) → ((x : ℕ) → s x ≡ rel (r x)) → (x : ℕ) → substitution_under_one s x ≡ rel (renaming_under_one r x)
+pub renaming_stays_under_one : (s : ℕ → Tree) (r : ℕ → ℕ) → ((x : ℕ) → s x ≡ rel (r x)) → (x : ℕ) → substitution_under_one s x ≡ rel (renaming_under_one r x)
 unfolding substitution_under_one renaming_under_one rename
 renaming_stays_under_one s r h zero = refl
 renaming_stays_under_one s r h (suc x) = ap (rename suc) (h x)
 
-pub renaming_goes_under : (s : ℕ → Tree) (G D : Context) (e : Entry) → Renaming s G D → Renaming (substitution_under_one s) (e ∷ G) (substitute_entry s e ∷ D)
+unfoldable pub renaming_goes_under : (s : ℕ → Tree) (G D : Context) (e : Entry) → Renaming s G D → Renaming (substitution_under_one s) (e ∷ G) (substitute_entry s e ∷ D)
 renaming_goes_under s G D e h =
     let r : ℕ → ℕ = h.renaming in
     record {
@@ -76,7 +76,7 @@ renamings E E' g = record {
   grows = g;
 }
 
-pub as_renaming : (r : ℕ → ℕ) (G D : Context) → RenamesContext r G D → Renaming (λ x. rel (r x)) G D
+abbrev pub as_renaming : (r : ℕ → ℕ) (G D : Context) → RenamesContext r G D → Renaming (λ x. rel (r x)) G D
 as_renaming r G D h = record { renaming = r; is_renaming = λ x. refl; leads = h }
 
 -- One more entry
@@ -139,7 +139,7 @@ substitutions E E' g = record {
 }
 
 -- One term for the innermost entry
-innermost_past_binder : (u t : Tree) → substitute (for_innermost u) (rename suc t) ≡ t
+pub innermost_past_binder : (u t : Tree) → substitute (for_innermost u) (rename suc t) ≡ t
 unfolding for_innermost
 innermost_past_binder u t = substitute_rename t (for_innermost u) suc rel (λ x. refl) ∙ substitute_identity t rel (λ x. refl)
 
