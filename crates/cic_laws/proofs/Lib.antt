@@ -10,3 +10,4 @@ pub mod Stability
 pub mod Guards
 pub mod Typing
 pub mod TypedWeakening
+pub mod Growing

@@ -8,7 +8,7 @@ use Rattle.cic_rules.specs.Environment.{Environment, Context, Entry, assumed, de
 use Rattle.cic_rules.specs.Typing as T
 use Rattle.cic_rules.specs.Typing.{Typed}
 use Rattle.cic_laws.specs.Substitution.{renaming_under_one, rename, substitution_under_one, substitute, for_innermost}
-use Rattle.cic_laws.specs.Growth.{Grows, SubstitutesContext}
+use Rattle.cic_laws.specs.Growth.{Grows}
 use Rattle.cic_laws.specs.TypedContexts.{HasType, RenamesTypedContext, SubstitutesTypedContext}
 use Rattle.cic_laws.proofs.Composition.{rename_as_substitute, rename_identity}
 use Rattle.cic_laws.proofs.LiftAndSubst.{lift_by_one, subst_innermost, substitute_lift_by_one}
@@ -55,7 +55,7 @@ unfolding renaming_goes_under
 typed_renaming_goes_under s G D e h = record {
   context = renaming_goes_under s G D e h.context;
   types = renames_types_under h.context.renaming G D e (substitute_entry s e)
-    (λ a q. ap (map_tree (substitute s)) q ∙ ap Some (substitute_by_renaming s h.context.renaming a h.context.is_renaming)) h.types;
+      (λ a q. ap (map_tree (substitute s)) q ∙ ap Some (substitute_by_renaming s h.context.renaming a h.context.is_renaming)) h.types;
 }
 
 pub typed_renaming_of_nothing : TypedRenaming rel [] []
@@ -86,7 +86,7 @@ typed_renamings E E' N g = record {
 pub typed_renamed : (E E' : Environment) (N : Numbering) (r : ℕ → ℕ) (G D : Context) (t a : Tree) → Grows E E' → RenamesTypedContext r G D → Typed E N G t a → Typed E' N D (rename r t) (rename r a)
 typed_renamed E E' N r G D t a g h q =
     rw (rename_as_substitute t r, rename_as_substitute a r)
-      (typed_under E E' N (typed_renamings E E' N g) q (λ x. rel (r x)) D (record { context = as_renaming r G D h.context; types = h.types }))
+    (typed_under E E' N (typed_renamings E E' N g) q (λ x. rel (r x)) D (record { context = as_renaming r G D h.context; types = h.types }))
 
 unchanged : (t : Tree) → t ≡ rename (λ x. x) t
 unchanged t = sym (rename_identity t (λ x. x) (λ x. refl))
@@ -94,7 +94,7 @@ unchanged t = sym (rename_identity t (λ x. x) (λ x. refl))
 pub typed_grows : (E E' : Environment) (N : Numbering) (G : Context) (t a : Tree) → Grows E E' → Typed E N G t a → Typed E' N G t a
 typed_grows E E' N G t a g q =
     rw (unchanged t, unchanged a)
-      (typed_renamed E E' N (λ x. x) G G t a g (record { context = renames_nothing G; types = λ x t a. rw (rename_identity t (λ y. y) (λ y. refl)) a }) q)
+    (typed_renamed E E' N (λ x. x) G G t a g (record { context = renames_nothing G; types = λ x t a. rw (rename_identity t (λ y. y) (λ y. refl)) a }) q)
 
 typed_past_entry : (E : Environment) (N : Numbering) (G : Context) (e : Entry) (t a : Tree) → Typed E N G t a → Typed E N (e ∷ G) (rename suc t) (rename suc a)
 typed_past_entry E N G e t a q =
@@ -163,17 +163,17 @@ some_is_injective a b e = cc
 pub typed_at_assumed : (E : Environment) (N : Numbering) (G : Context) (a u t b : Tree) → Typed E N (assumed a ∷ G) t b → Typed E N G u a → Typed E N G (subst_tree 0 u t) (subst_tree 0 u b)
 typed_at_assumed E N G a u t b p q =
     rw (subst_innermost u t, subst_innermost u b)
-      (typed_substituted E E N (for_innermost u) (assumed a ∷ G) G t b (grows_alike E)
-        (record {
-          context = substitutes_innermost E G (assumed a) u (λ c e. grind arith);
-          types = innermost_types E N G (assumed a) u (λ c e. rw (← some_is_injective a c e) q);
-        }) p)
+    (typed_substituted E E N (for_innermost u) (assumed a ∷ G) G t b (grows_alike E)
+    (record {
+      context = substitutes_innermost E G (assumed a) u (λ c e. grind arith);
+      types = innermost_types E N G (assumed a) u (λ c e. rw (← some_is_injective a c e) q);
+    }) p)
 
 pub typed_at_defined : (E : Environment) (N : Numbering) (G : Context) (a u t b : Tree) → Typed E N (defined u a ∷ G) t b → Typed E N G u a → Typed E N G (subst_tree 0 u t) (subst_tree 0 u b)
 typed_at_defined E N G a u t b p q =
     rw (subst_innermost u t, subst_innermost u b)
-      (typed_substituted E E N (for_innermost u) (defined u a ∷ G) G t b (grows_alike E)
-        (record {
-          context = substitutes_innermost E G (defined u a) u (λ c e. some_is_injective u c e);
-          types = innermost_types E N G (defined u a) u (λ c e. rw (← some_is_injective a c e) q);
-        }) p)
+    (typed_substituted E E N (for_innermost u) (defined u a ∷ G) G t b (grows_alike E)
+    (record {
+      context = substitutes_innermost E G (defined u a) u (λ c e. some_is_injective u c e);
+      types = innermost_types E N G (defined u a) u (λ c e. rw (← some_is_injective a c e) q);
+    }) p)

@@ -1,14 +1,14 @@
 -- Typing goes through each substitution of a kind that keeps the types of variables. By induction on the
 -- derivation, mutual with branches, elimination and lists: each rule holds again of the terms substituted, since a
 -- substitution goes through the products, telescopes and Fixes that the rule names.
-use Rattle.std.proofs.Common.{◌≡◌, ℕ, zero, suc, ◌+◌, List, [], ◌∷◌, ◌++◌, length, map, Some, refl, sym, ap, ap₂, ◌∙◌, arith, length-append}
+use Rattle.std.proofs.Common.{◌≡◌, ℕ, zero, suc, ◌+◌, List, [], ◌∷◌, ◌++◌, length, map, refl, sym, ap, ap₂, ◌∙◌, arith, length-append}
 use Rattle.std.proofs.lemmas.List.{length-map, map-append}
-use Rattle.cic_terms.specs.Tree.{TreeSort, prop, over, Tree, rel, Children, sort, prod, ind, ctor}
-use Rattle.cic_terms.specs.Lift.{lift_tree, subst_tree}
+use Rattle.cic_terms.specs.Tree.{TreeSort, over, Tree, rel, Children, sort, prod, ind, ctor}
+use Rattle.cic_terms.specs.Lift.{lift_tree}
 use Rattle.cic_terms.specs.declared.name.GlobalId.{GlobalId}
 use Rattle.cic_rules.specs.Numbering.{Numbering}
-use Rattle.cic_rules.specs.Environment.{Environment, Context, TypeDeclaration, ConstructorDeclaration, assumed, defined, element}
-use Rattle.cic_rules.specs.Telescopes.{apply, products, extend, substitute_all, variables, lift_all, Function, function_parts, function_shapes, function_type, function_types, full_body, full_bodies}
+use Rattle.cic_rules.specs.Environment.{Environment, Context, TypeDeclaration, ConstructorDeclaration, assumed, defined}
+use Rattle.cic_rules.specs.Telescopes.{apply, products, extend, substitute_all, variables, lift_all, Function, function_parts, function_type, function_types, full_bodies}
 use Rattle.cic_rules.specs.Typing as T
 use Rattle.cic_rules.specs.Typing.{Typed, Branches, Eliminated, Propositions, AllSorted, AllTyped, Instantiated, no_argument, one_argument, function_entries, no_branch, branch, into_prop, of_no_proposition, without_constructor, of_propositions, no_proposition, one_proposition, none_sorted, more_sorted, none_typed, more_typed}
 use Rattle.cic_laws.specs.Substitution.{rename, substitution_under_one, substitution_under, substitute, substitute_children, substitute_domains, substitute_function}
@@ -113,9 +113,9 @@ unfolding substitution_under
 good_functions E E' K [] before s G D h = h
 good_functions E E' K (t ∷ ts) before s G D h =
     good_at E E' K _ _ _ _ _ (ap (substitution_under (length ts)) (sym (one_more_under before s))) refl
-      (good_functions E E' K ts (before + 1) s (assumed (lift_tree 0 before t) ∷ G) (assumed (lift_tree 0 before (substitute s t)) ∷ D)
-        (good_at E E' K _ _ _ _ _ (one_more_under before s) (ap (λ z. assumed z ∷ D) (substitute_lift 0 before t s))
-          (K.goes_under (substitution_under before s) G D (assumed (lift_tree 0 before t)) h)))
+    (good_functions E E' K ts (before + 1) s (assumed (lift_tree 0 before t) ∷ G) (assumed (lift_tree 0 before (substitute s t)) ∷ D)
+    (good_at E E' K _ _ _ _ _ (one_more_under before s) (ap (λ z. assumed z ∷ D) (substitute_lift 0 before t s))
+    (K.goes_under (substitution_under before s) G D (assumed (lift_tree 0 before t)) h)))
 
 -- Derivations at equal contexts and terms
 typed_at : (E : Environment) (N : Numbering) (G G' : Context) (t t' a a' : Tree) → G ≡ G' → t ≡ t' → a ≡ a' → Typed E N G t a → Typed E N G' t' a'
@@ -150,10 +150,10 @@ branch_type_under c domains qs indices m w s e f =
     ap (substitute s) f
     ∙ substitute_products domains (apply (ind c) (lift_all k qs ++ indices)) s
     ∙ ap (products (substitute_domains s domains))
-        (inductive_in_two c (lift_all k qs) indices (substitution_under k s) _ refl
-        ∙ ap₂ (λ y z. apply (ind c) (y ++ z))
-            (lift_all_under k qs s ∙ ap (λ i. lift_all i (map (substitute s) qs)) (sym (length_substitute_domains domains s)))
-            (ap (λ i. map (substitute (substitution_under i s)) indices) e))
+    (inductive_in_two c (lift_all k qs) indices (substitution_under k s) _ refl
+    ∙ ap₂ (λ y z. apply (ind c) (y ++ z))
+    (lift_all_under k qs s ∙ ap (λ i. lift_all i (map (substitute s) qs)) (sym (length_substitute_domains domains s)))
+    (ap (λ i. map (substitute (substitution_under i s)) indices) e))
 
 mutual
   unfolding substitute substitution_under
@@ -175,45 +175,45 @@ mutual
       T.Typed.application (typed_under E E' N K p s D h) (typed_under E E' N K q s D h) (ap (substitute s) e ∙ substitute_subst_innermost u b s)
   typed_under E E' N K (T.Typed.local_definition {G = G} {t = t} {a = a} {b = b} o p q e) s D h =
       T.Typed.local_definition (typed_under E E' N K o s D h) (typed_under E E' N K p s D h)
-        (typed_under E E' N K q (substitution_under_one s) (defined (substitute s t) (substitute s a) ∷ D) (K.kind.goes_under s G D (defined t a) h))
-        (ap (substitute s) e ∙ substitute_subst_innermost t b s)
+      (typed_under E E' N K q (substitution_under_one s) (defined (substitute s t) (substitute s a) ∷ D) (K.kind.goes_under s G D (defined t a) h))
+      (ap (substitute s) e ∙ substitute_subst_innermost t b s)
   typed_under E E' N K (T.Typed.matching {G = G} {id = id} {n = n} {p = p} {v = v} {w = w} {place = place} {T = I} parameters indices domains s' d el lp li ew tv pe ez ld tp elim_ br et) s D h =
       T.Typed.matching (map (substitute s) parameters) (map (substitute s) indices) (substitute_domains s domains) s'
-        (K.kind.grows.blocks id place d) el (length-map parameters (substitute s) ∙ lp) (length-map indices (substitute s) ∙ li)
-        (inductive_in_two id parameters indices s w ew) (typed_under E E' N K tv s D h)
-        (instantiated_at _ _ (substitute_past_context s (length G) (length D) I.arity (K.kind.outside s G D h)) (instantiated_under pe s))
-        (ap (substitute s) ez ∙ substitute_products domains (sort s') s) (length_substitute_domains domains s ∙ ld)
-        (typed_at E' N _ _ _ _ _ _
-          (ap (λ z. assumed z ∷ extend D (substitute_domains s domains)) (ap (λ m. substitute (substitution_under m s) (apply (ind id) (lift_all n parameters ++ variables n))) ld ∙ value_under id parameters n s))
-          (ap (λ z. substitute z p) (one_more_under (length domains) s ∙ ap (λ m. substitution_under (m + 1) s) ld ∙ sym (none_and_under (n + 1) s))) refl
-          (typed_under E E' N K tp (substitution_under_one (substitution_under (length domains) s))
-            (assumed (substitute (substitution_under (length domains) s) (apply (ind id) (lift_all n parameters ++ variables n))) ∷ extend D (substitute_domains s domains))
-            (K.kind.goes_under (substitution_under (length domains) s) (extend G domains) (extend D (substitute_domains s domains)) (assumed (apply (ind id) (lift_all n parameters ++ variables n))) (good_extended E E' K.kind domains s G D h))))
-        (eliminated_under E E' N K elim_) (branches_at E' N D id (map (substitute s) parameters) n _ _ I.constructors _ (ap (λ z. substitute z p) (sym (none_and_under (n + 1) s))) (branches_under E E' N K br s D h))
-        (ap (substitute s) et ∙ motive_at indices v p n s li ∙ ap (λ z. substitute_all (map (substitute s) indices ++ substitute s v ∷ []) (substitute z p)) (sym (none_and_under (n + 1) s)))
+      (K.kind.grows.blocks id place d) el (length-map parameters (substitute s) ∙ lp) (length-map indices (substitute s) ∙ li)
+      (inductive_in_two id parameters indices s w ew) (typed_under E E' N K tv s D h)
+      (instantiated_at _ _ (substitute_past_context s (length G) (length D) I.arity (K.kind.outside s G D h)) (instantiated_under pe s))
+      (ap (substitute s) ez ∙ substitute_products domains (sort s') s) (length_substitute_domains domains s ∙ ld)
+      (typed_at E' N _ _ _ _ _ _
+      (ap (λ z. assumed z ∷ extend D (substitute_domains s domains)) (ap (λ m. substitute (substitution_under m s) (apply (ind id) (lift_all n parameters ++ variables n))) ld ∙ value_under id parameters n s))
+      (ap (λ z. substitute z p) (one_more_under (length domains) s ∙ ap (λ m. substitution_under (m + 1) s) ld ∙ sym (none_and_under (n + 1) s))) refl
+      (typed_under E E' N K tp (substitution_under_one (substitution_under (length domains) s))
+      (assumed (substitute (substitution_under (length domains) s) (apply (ind id) (lift_all n parameters ++ variables n))) ∷ extend D (substitute_domains s domains))
+      (K.kind.goes_under (substitution_under (length domains) s) (extend G domains) (extend D (substitute_domains s domains)) (assumed (apply (ind id) (lift_all n parameters ++ variables n))) (good_extended E E' K.kind domains s G D h))))
+      (eliminated_under E E' N K elim_) (branches_at E' N D id (map (substitute s) parameters) n _ _ I.constructors _ (ap (λ z. substitute z p) (sym (none_and_under (n + 1) s))) (branches_under E E' N K br s D h))
+      (ap (substitute s) et ∙ motive_at indices v p n s li ∙ ap (λ z. substitute_all (map (substitute s) indices ++ substitute s v ∷ []) (substitute z p)) (sym (none_and_under (n + 1) s)))
   typed_under E E' N K (T.Typed.fixpoint {G = G} {which = which} {f = f} fs es ep ef st bt g et) s D h =
       let n : ℕ = length fs in
       let fs' : List Function = map (substitute_function n s) fs in
       let count : length (function_types fs) ≡ n = length-map fs function_type in
       let count' : length fs' ≡ n = length-map fs (substitute_function n s) in
       T.Typed.fixpoint fs'
-        (es ∙ sym (substitute_shapes fs n s))
-        (ap (substitute_children s) ep ∙ substitute_function_parts fs n s ∙ ap (λ m. function_parts m fs') (sym count'))
-        (element_map (substitute_function n s) fs which f ef)
-        (all_sorted_at E' N D _ _ (function_types_under n fs s) (all_sorted_under E E' N K st s D h))
-        (all_typed_at E' N _ _ _ _ _ _ (ap (function_entries 0 D) (function_types_under n fs s))
-          (ap (λ m. map (substitute (substitution_under m s)) (full_bodies n fs)) count ∙ full_bodies_under n fs s ∙ ap (λ m. full_bodies m fs') (sym count'))
-          (ap (λ m. map (substitute (substitution_under m s)) (lift_all n (function_types fs))) count ∙ lift_all_under n (function_types fs) s
-          ∙ ap₂ lift_all (sym count') (function_types_under n fs s))
-          (all_typed_under E E' N K bt (substitution_under (length (function_types fs)) s) (function_entries 0 D (map (substitute s) (function_types fs)))
-            (good_functions E E' K.kind (function_types fs) 0 s G D h)))
-        (guarded_under E E' fs s K.kind.grows g) (ap (substitute s) et ∙ function_type_under n f s)
+      (es ∙ sym (substitute_shapes fs n s))
+      (ap (substitute_children s) ep ∙ substitute_function_parts fs n s ∙ ap (λ m. function_parts m fs') (sym count'))
+      (element_map (substitute_function n s) fs which f ef)
+      (all_sorted_at E' N D _ _ (function_types_under n fs s) (all_sorted_under E E' N K st s D h))
+      (all_typed_at E' N _ _ _ _ _ _ (ap (function_entries 0 D) (function_types_under n fs s))
+      (ap (λ m. map (substitute (substitution_under m s)) (full_bodies n fs)) count ∙ full_bodies_under n fs s ∙ ap (λ m. full_bodies m fs') (sym count'))
+      (ap (λ m. map (substitute (substitution_under m s)) (lift_all n (function_types fs))) count ∙ lift_all_under n (function_types fs) s
+      ∙ ap₂ lift_all (sym count') (function_types_under n fs s))
+      (all_typed_under E E' N K bt (substitution_under (length (function_types fs)) s) (function_entries 0 D (map (substitute s) (function_types fs)))
+      (good_functions E E' K.kind (function_types fs) 0 s G D h)))
+      (guarded_under E E' fs s K.kind.grows g) (ap (substitute s) et ∙ function_type_under n f s)
   typed_under E E' N K (T.Typed.conversion p q l) s D h = T.Typed.conversion (typed_under E E' N K p s D h) (typed_under E E' N K q s D h) (at_most_under E E' K.kind N l s D h)
   typed_under E E' N K (T.Typed.instance {G = G} {u = u} {a = a} id A before after w b z d e p x y) s D h =
       T.Typed.instance id A (map (substitute s) before) (map (substitute s) after) (substitute s w) (substitute (substitution_under_one s) b) (substitute s z)
-        (K.kind.grows.arities id A d) (inductive_in_two id before (u ∷ after) s w e) (typed_under E E' N K p s D h)
-        (instantiated_at _ _ (substitute_past_context s (length G) (length D) A.type (K.kind.outside s G D h)) (instantiated_under x s))
-        (instantiated_at _ _ (substitute_subst_innermost u b s) (instantiated_under y s))
+      (K.kind.grows.arities id A d) (inductive_in_two id before (u ∷ after) s w e) (typed_under E E' N K p s D h)
+      (instantiated_at _ _ (substitute_past_context s (length G) (length D) A.type (K.kind.outside s G D h)) (instantiated_under x s))
+      (instantiated_at _ _ (substitute_subst_innermost u b s) (instantiated_under y s))
 
   branches_under : (E E' : Environment) (N : Numbering) (K : TypedKind E E' N) {G : Context} {id : GlobalId} {qs : List Tree} {n : ℕ} {p : Tree} {cs : List ConstructorDeclaration} {ks : Children} → Branches E N G id qs n p cs ks → (s : ℕ → Tree) (D : Context) → K.kind.Good s G D →
       Branches E' N D id (map (substitute s) qs) n (substitute (substitution_under (n + 1) s) p) cs (substitute_children s ks)
@@ -221,13 +221,13 @@ mutual
   branches_under E E' N K (branch {G = G} {id = id} {parameters = qs} {n = n} {p = p} {w = w} {t = t} {goal = goal} {b = b} {c = c} domains indices pe ew ld li eg gt br) s D h =
       let m : ℕ = over b 0 in
       branch (substitute_domains s domains) (map (substitute (substitution_under m s)) indices)
-        (instantiated_at _ _ (substitute_past_context s (length G) (length D) c.type (K.kind.outside s G D h)) (instantiated_under pe s))
-        (branch_type_under id domains qs indices (over b 0) w s ld ew)
-        (length_substitute_domains domains s ∙ ld) (length-map indices (substitute (substitution_under m s)) ∙ li)
-        (goal_under goal indices c.id qs (over b 0) n p s li eg)
-        (typed_at E' N _ _ _ _ _ _ refl (ap (λ i. substitute (substitution_under i s) t) ld) (ap (λ i. substitute (substitution_under i s) goal) ld)
-          (typed_under E E' N K gt (substitution_under (length domains) s) (extend D (substitute_domains s domains)) (good_extended E E' K.kind domains s G D h)))
-        (branches_under E E' N K br s D h)
+      (instantiated_at _ _ (substitute_past_context s (length G) (length D) c.type (K.kind.outside s G D h)) (instantiated_under pe s))
+      (branch_type_under id domains qs indices (over b 0) w s ld ew)
+      (length_substitute_domains domains s ∙ ld) (length-map indices (substitute (substitution_under m s)) ∙ li)
+      (goal_under goal indices c.id qs (over b 0) n p s li eg)
+      (typed_at E' N _ _ _ _ _ _ refl (ap (λ i. substitute (substitution_under i s) t) ld) (ap (λ i. substitute (substitution_under i s) goal) ld)
+      (typed_under E E' N K gt (substitution_under (length domains) s) (extend D (substitute_domains s domains)) (good_extended E E' K.kind domains s G D h)))
+      (branches_under E E' N K br s D h)
 
   eliminated_under : (E E' : Environment) (N : Numbering) (K : TypedKind E E' N) {r : ℕ} {I : TypeDeclaration} {z : TreeSort} → Eliminated E N r I z → Eliminated E' N r I z
   eliminated_under E E' N K into_prop = into_prop
@@ -235,9 +235,9 @@ mutual
   eliminated_under E E' N K (without_constructor e) = without_constructor e
   eliminated_under E E' N K (of_propositions c parameters arguments us e f l ps) =
       of_propositions c parameters arguments us e f l
-        (propositions_at E' N _ _ _ _ (ap (extend []) (domains_unchanged parameters rel (λ x. refl)))
-          (domains_unchanged arguments (substitution_under (length parameters) rel) (identity_under (length parameters) rel (λ x. refl)))
-          (propositions_under E E' N K ps (substitution_under (length parameters) rel) (extend [] (substitute_domains rel parameters)) (good_extended E E' K.kind parameters rel [] [] K.nothing)))
+      (propositions_at E' N _ _ _ _ (ap (extend []) (domains_unchanged parameters rel (λ x. refl)))
+      (domains_unchanged arguments (substitution_under (length parameters) rel) (identity_under (length parameters) rel (λ x. refl)))
+      (propositions_under E E' N K ps (substitution_under (length parameters) rel) (extend [] (substitute_domains rel parameters)) (good_extended E E' K.kind parameters rel [] [] K.nothing)))
 
   propositions_under : (E E' : Environment) (N : Numbering) (K : TypedKind E E' N) {G : Context} {as_ : List Tree} → Propositions E N G as_ → (s : ℕ → Tree) (D : Context) → K.kind.Good s G D → Propositions E' N D (substitute_domains s as_)
   propositions_under E E' N K no_proposition s D h = no_proposition
