@@ -13,3 +13,13 @@ pub mod GuardsSubstitution
 pub mod GuardsFunctions
 pub mod GuardsPositivity
 pub mod GuardsEnvironments
+pub mod Telescopes
+pub mod Contexts
+pub mod Steps
+pub mod Conversions
+pub mod Weakening
+pub mod Stability
+pub mod GuardsTogether
+pub mod Typing
+pub mod TypedWeakening
+pub mod Growing

@@ -2,3 +2,5 @@
 pub mod Budgets
 pub mod Guards
 pub mod Substitution
+pub mod Growth
+pub mod TypedContexts
