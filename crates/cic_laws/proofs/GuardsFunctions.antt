@@ -5,13 +5,14 @@ use Rattle.std.proofs.lemmas.List.{length-map, length-replicate}
 use Rattle.cic_terms.specs.Tree.{Tree, rel, ind}
 use Rattle.cic_terms.specs.declared.name.GlobalId.{GlobalId}
 use Rattle.cic_rules.specs.Environment.{Environment, element}
-use Rattle.cic_rules.specs.Telescopes.{apply, Function}
+use Rattle.cic_rules.specs.Telescopes.{apply, Function, fixpoint}
 use Rattle.cic_rules.specs.Guard.{Mark, plain, all_plain, under_marks, recursive_marks, function_marks, domain_marks, recursive_places, Fine, GuardedFunction, EachGuarded, Guarded}
-use Rattle.cic_laws.specs.Substitution.{renaming_under_one, renaming_under, rename, substitution_under_one, substitution_under, substitute}
-use Rattle.cic_laws.specs.Guards.{rename_domains, substitute_domains, rename_function, substitute_function, rename_functions, substitute_functions}
+use Rattle.cic_laws.specs.Substitution.{renaming_under_one, renaming_under, rename, substitution_under_one, substitution_under, substitute, substitute_domains, substitute_function}
+use Rattle.cic_laws.specs.Guards.{rename_domains, rename_function, rename_functions, substitute_functions}
 use Rattle.cic_laws.proofs.Composition.{substitute_rename, substitute_identity}
+use Rattle.cic_laws.proofs.Telescopes.{substitute_inductive, length_substitute_domains, substitute_fixpoint}
 use Rattle.cic_laws.proofs.GuardsFitting.{fits_under, all_fits}
-use Rattle.cic_laws.proofs.GuardsSubstitution.{substitute_apply, substitute_fine}
+use Rattle.cic_laws.proofs.GuardsSubstitution.{substitute_fine}
 
 -- How many marks there are
 length_function_marks : (j n : ℕ) → length (function_marks j n) ≡ n
@@ -29,20 +30,12 @@ length_body_marks n k m =
     omega (arith, length-append (function_marks 0 n) (domain_marks k m), length_function_marks 0 n, length_domain_marks k m)
 
 -- The domains
-length_substitute_domains : (as_ : List Tree) (s : ℕ → Tree) → length (substitute_domains s as_) ≡ length as_
-length_substitute_domains [] s = refl
-length_substitute_domains (a ∷ as_) s = ap suc (length_substitute_domains as_ (substitution_under_one s))
-
 substitute_domain_at : (as_ : List Tree) (k : ℕ) (a : Tree) (s : ℕ → Tree) → element as_ k ≡ Some a →
     element (substitute_domains s as_) k ≡ Some (substitute (substitution_under k s) a)
 unfolding substitution_under
 substitute_domain_at [] k a s e = absurd cc
 substitute_domain_at (b ∷ as_) zero a s e = let z : b ≡ a = cc in ap (λ y. Some (substitute s y)) z
 substitute_domain_at (b ∷ as_) (suc k) a s e = substitute_domain_at as_ k a (substitution_under_one s) e
-
-substitute_inductive : (id : GlobalId) (us : List Tree) (s : ℕ → Tree) → substitute s (apply (ind id) us) ≡ apply (ind id) (map (substitute s) us)
-unfolding substitute
-substitute_inductive id us s = substitute_apply us (ind id) s
 
 -- The bodies
 fine_body_substitute : (recursive : GlobalId → ℕ → Option (List Mark)) (places places' : List ℕ) (n n' k m m' : ℕ) (s : ℕ → Tree) (t : Tree) →
@@ -125,3 +118,9 @@ rename_functions_is_substitute r fs = rename_each_is_substitute fs (length fs) r
 
 pub guarded_rename : (E : Environment) (r : ℕ → ℕ) (fs : List Function) → Guarded E fs → Guarded E (rename_functions r fs)
 guarded_rename E r fs g = rw (rename_functions_is_substitute r fs) (guarded_substitute E (λ x. rel (r x)) fs g)
+
+pub rename_fixpoint : (r : ℕ → ℕ) (which : ℕ) (fs : List Function) → rename r (fixpoint which fs) ≡ fixpoint which (rename_functions r fs)
+rename_fixpoint r which fs =
+    rename_is_substitute (fixpoint which fs) r (λ x. rel (r x)) (λ x. refl)
+    ∙ substitute_fixpoint which fs (λ x. rel (r x))
+    ∙ ap (fixpoint which) (sym (rename_functions_is_substitute r fs))

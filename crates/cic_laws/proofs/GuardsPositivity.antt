@@ -9,7 +9,7 @@ use Rattle.cic_rules.specs.Inductive.{Each, Absent, StrictlyPositive, absent, ap
 use Rattle.cic_laws.specs.Substitution.{renaming_under, rename, rename_children, substitution_under_one, substitution_under, substitute, substitute_children, lifted_variable}
 use Rattle.cic_laws.proofs.Composition.{rename_as_substitute}
 use Rattle.cic_laws.proofs.LiftAndSubst.{lift_renames_variables, subst_substitutes_variables}
-use Rattle.cic_laws.proofs.GuardsSubstitution.{substitute_apply}
+use Rattle.cic_laws.proofs.Telescopes.{substitute_apply}
 
 mutual
   unfolding rename

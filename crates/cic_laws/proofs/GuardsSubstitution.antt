@@ -1,29 +1,18 @@
 -- The smaller terms stay smaller, and the fine terms fine, under a substitution that fits their marks. One
 -- induction over the smaller terms, one over the fine ones: a variable with a mark stays a variable with that
 -- mark, and a plain one becomes a term without functions, which is fine whatever its marks.
-use Rattle.std.proofs.Common.{◌≡◌, ◌≢◌, ℕ, zero, suc, ◌+◌, List, [], ◌∷◌, map, Option, Some, refl, sym, ap, ◌∙◌, arith}
-use Rattle.cic_terms.specs.Tree.{more, over, Tree, rel, Children, app}
+use Rattle.std.proofs.Common.{◌≡◌, ◌≢◌, ℕ, ◌+◌, List, map, Option, sym, ap, ◌∙◌, arith}
+use Rattle.cic_terms.specs.Tree.{more, over, Tree, rel, Children}
 use Rattle.cic_terms.specs.Lift.{lift_tree, subst_rel, subst_tree}
 use Rattle.cic_terms.specs.declared.name.GlobalId.{GlobalId}
-use Rattle.cic_rules.specs.Environment.{element}
 use Rattle.cic_rules.specs.Telescopes.{apply}
 use Rattle.cic_rules.specs.Guard.{Mark, plain, function, Marks, under_mark, under_marks, under_plain, Smaller, smaller_variable, smaller_application, smaller_abstraction, smaller_match, smaller_match_on_smaller, Known, recursive_variable, known_smaller, SmallerParts, no_smaller_part, smaller_part, SmallerBranches, no_smaller_branch, smaller_branch, smaller_plain_branch, Fine, fine_variable, fine_call, fine_parts, fine_match_on_smaller, AllFine, none_fine, more_fine, FineParts, no_fine_part, fine_part, FineBranches, no_fine_branch, fine_branch, fine_plain_branch}
 use Rattle.cic_laws.specs.Substitution.{rename, substitution_under_one, substitution_under, substitute, substitute_children, lifted_variable}
 use Rattle.cic_laws.specs.Guards.{WithoutFunctions, no_function, in_no_part, PartsWithoutFunctions, no_part, part_without, FitsMark, for_plain, same_mark, KeepsMarks, FitsMarks}
 use Rattle.cic_laws.proofs.Composition.{rename_as_substitute}
 use Rattle.cic_laws.proofs.LiftAndSubst.{lift_renames_variables, subst_substitutes_variables}
+use Rattle.cic_laws.proofs.Telescopes.{element_map, substitute_apply}
 use Rattle.cic_laws.proofs.GuardsFitting.{fits_under_one, fits_under, fits_under_plain, Variable, stays_variable}
-
--- Applications in a row under a substitution, and an element of a mapped list
-pub substitute_apply : (us : List Tree) (f : Tree) (s : ℕ → Tree) → substitute s (apply f us) ≡ apply (substitute s f) (map (substitute s) us)
-unfolding substitute substitution_under
-substitute_apply [] f s = refl
-substitute_apply (u ∷ us) f s = substitute_apply us (app f u) s
-
-element_of_map : (us : List Tree) (k : ℕ) (u : Tree) (s : ℕ → Tree) → element us k ≡ Some u → element (map (substitute s) us) k ≡ Some (substitute s u)
-element_of_map [] k u s e = absurd cc
-element_of_map (t ∷ us) zero u s e = let z : t ≡ u = cc in ap (λ y. Some (substitute s y)) z
-element_of_map (t ∷ us) (suc k) u s e = element_of_map us k u s e
 
 motive_binders : (n : ℕ) → over (more n) 0 ≡ n + 1
 motive_binders n = omega arith
@@ -89,7 +78,7 @@ module _ (recursive : GlobalId → ℕ → Option (List Mark)) (places : List �
         let y : Variable f' (f x) (s x) = stays_variable f' (f x) (s x) (h x) (λ z. cc) in
         fine_call y.place j k (map (substitute s) us) (substitute s u)
         (ap (substitute s) e ∙ substitute_apply us (rel x) s ∙ ap (λ z. apply z (map (substitute s) us)) y.is_variable)
-        (y.mark ∙ q) p (element_of_map us k u s a) (substitute_smaller c s f' h) (substitute_all_fine cs s f' h)
+        (y.mark ∙ q) p (element_map (substitute s) us k u a) (substitute_smaller c s f' h) (substitute_all_fine cs s f' h)
     substitute_fine (fine_parts c) s f' h = fine_parts (substitute_fine_parts c s f' h)
     substitute_fine (fine_match_on_smaller {marks = f} {n = n} {p = p} k m v c) s f' h =
         let fits : FitsMarks (substitution_under (over (more n) 0) s) (under_plain (n + 1) f) (under_plain (n + 1) f') =

@@ -15,3 +15,13 @@ pub mod GuardsFunctions
 pub mod GuardsPositivity
 pub mod GuardsEnvironments
 pub mod BudgetsChecking
+pub mod Telescopes
+pub mod Contexts
+pub mod Steps
+pub mod Conversions
+pub mod Weakening
+pub mod Stability
+pub mod GuardsTogether
+pub mod Typing
+pub mod TypedWeakening
+pub mod Growing

@@ -21,7 +21,7 @@ unfolding renaming_under_one
 equal_under_one r r' h zero = refl
 equal_under_one r r' h (suc x) = ap suc (h x)
 
-lifted_under : (n : ℕ) (r : ℕ → ℕ) (from by place : ℕ) → place ≡ from + n → ((x : ℕ) → r x ≡ lifted_variable from by x) →
+pub lifted_under : (n : ℕ) (r : ℕ → ℕ) (from by place : ℕ) → place ≡ from + n → ((x : ℕ) → r x ≡ lifted_variable from by x) →
     (x : ℕ) → renaming_under n r x ≡ lifted_variable place by x
 unfolding renaming_under
 lifted_under zero r from by place e h = λ x. h x ∙ ap (λ z. lifted_variable z by x) (omega arith)

@@ -6,7 +6,7 @@ use Rattle.cic_terms.specs.declared.name.GlobalId.{GlobalId}
 use Rattle.cic_rules.specs.Environment.{Environment, TypeInBlock, whole_block}
 use Rattle.cic_rules.specs.Telescopes.{Function}
 use Rattle.cic_rules.specs.Guard.{Mark, plain, function, Marks, under_plain}
-use Rattle.cic_laws.specs.Substitution.{renaming_under_one, renaming_under, rename, substitution_under_one, substitution_under, substitute}
+use Rattle.cic_laws.specs.Substitution.{renaming_under_one, renaming_under, rename, substitute_function}
 
 -- Each whole block that E shows, E' shows alike. The guard looks at an environment by this lookup alone.
 abbrev pub ShowsBlocks : Environment → Environment → Type 0
@@ -47,17 +47,13 @@ KeepsMarks r marks marks' = (x : ℕ) → marks' (r x) ≡ marks x
 abbrev pub FitsMarks : (ℕ → Tree) → Marks → Marks → Type 0
 FitsMarks s marks marks' = (x : ℕ) → FitsMark marks' (marks x) (s x)
 
--- A renaming, and a substitution, in domains, each of which stands under the earlier ones.
+-- A renaming in domains, each of which stands under the earlier ones.
 abbrev pub rename_domains : (ℕ → ℕ) → List Tree → List Tree
 rename_domains r [] = []
 rename_domains r (a ∷ as_) = rename r a ∷ rename_domains (renaming_under_one r) as_
 
-abbrev pub substitute_domains : (ℕ → Tree) → List Tree → List Tree
-substitute_domains s [] = []
-substitute_domains s (a ∷ as_) = substitute s a ∷ substitute_domains (substitution_under_one s) as_
-
--- The same in a function of a Fix with `all` functions, and in all of them: the codomain stands under the
--- domains, the body under all functions and then the domains.
+-- The same in a function of a Fix with `all` functions: the codomain stands under the domains, the body
+-- under all functions and then the domains.
 abbrev pub rename_function : (all : ℕ) → (ℕ → ℕ) → Function → Function
 rename_function all r f = record {
   k = f.k;
@@ -66,14 +62,7 @@ rename_function all r f = record {
   body = rename (renaming_under (all + length f.domains) r) f.body;
 }
 
-abbrev pub substitute_function : (all : ℕ) → (ℕ → Tree) → Function → Function
-substitute_function all s f = record {
-  k = f.k;
-  domains = substitute_domains s f.domains;
-  codomain = substitute (substitution_under (length f.domains) s) f.codomain;
-  body = substitute (substitution_under (all + length f.domains) s) f.body;
-}
-
+-- A renaming, and a substitution, in all functions of a Fix.
 abbrev pub rename_functions : (ℕ → ℕ) → List Function → List Function
 rename_functions r fs = map (rename_function (length fs) r) fs
 

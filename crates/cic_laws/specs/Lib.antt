@@ -3,3 +3,5 @@
 pub mod Budgets
 pub mod Guards
 pub mod Substitution
+pub mod Growth
+pub mod TypedContexts

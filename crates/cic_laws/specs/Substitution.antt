@@ -1,7 +1,8 @@
 -- Renaming and substitution of all free variables of a term at once. A renaming is a function from
 -- variables to variables, a substitution a function from variables to terms.
-use Rattle.std.specs.Prelude.{ℕ, zero, suc, ◌+◌, if◌then◌else◌, ltb}
+use Rattle.std.specs.Prelude.{ℕ, zero, suc, ◌+◌, if◌then◌else◌, ltb, List, [], ◌∷◌, length}
 use Rattle.cic_terms.specs.Tree.{Tree, rel, node, Children, no_child, child, over}
+use Rattle.cic_rules.specs.Telescopes.{Function}
 
 -- A renaming under one more binder: the variable of the binder stays, and the others go where they went.
 unfoldable pub renaming_under_one : (ℕ → ℕ) → ℕ → ℕ
@@ -52,3 +53,17 @@ for_innermost u (suc x) = rel x
 -- The renaming that adds `by` to each variable at or above `from`.
 abbrev pub lifted_variable : (from by : ℕ) → ℕ → ℕ
 lifted_variable from by x = if ltb x from then x else x + by
+
+-- A substitution in domains, each of which stands under the earlier ones.
+abbrev pub substitute_domains : (ℕ → Tree) → List Tree → List Tree
+substitute_domains s [] = []
+substitute_domains s (a ∷ as_) = substitute s a ∷ substitute_domains (substitution_under_one s) as_
+
+-- A substitution in a function of a Fix, of which there are `all`.
+abbrev pub substitute_function : (all : ℕ) → (ℕ → Tree) → Function → Function
+substitute_function all s f = record {
+  k = f.k;
+  domains = substitute_domains s f.domains;
+  codomain = substitute (substitution_under (length f.domains) s) f.codomain;
+  body = substitute (substitution_under (all + length f.domains) s) f.body;
+}

@@ -1,11 +1,11 @@
 //! Laws: the guard of a Fix where the environment grows, and the guard and strict positivity under renaming
 //! and substitution.
-ghost use Rattle.std.specs.Prelude.{List, [], ◌∷◌, ◌++◌, Option, ℕ};
+ghost use Rattle.std.specs.Prelude.{List, [], ◌∷◌, ◌++◌, ◌≡◌, Option, ℕ};
 ghost use Rattle.cic_terms.specs.Tree.{Tree};
 ghost use Rattle.cic_terms.specs.Lift.{lift_tree, subst_rel, subst_tree};
 ghost use Rattle.cic_terms.specs.declared.name.GlobalId.{GlobalId};
 ghost use Rattle.cic_rules.specs.Environment.{Environment, Block, bare, declared, inductive};
-ghost use Rattle.cic_rules.specs.Telescopes.{Function};
+ghost use Rattle.cic_rules.specs.Telescopes.{Function, fixpoint};
 ghost use Rattle.cic_rules.specs.Guard.{Mark, Marks, Smaller, Fine, Guarded};
 ghost use Rattle.cic_rules.specs.Inductive.{Absent, StrictlyPositive};
 ghost use Rattle.cic_laws.specs.Substitution.{rename, substitute, lifted_variable};
@@ -50,4 +50,11 @@ pub fn positivity_stays_under_substitution()
     ensures lift { (ids : List GlobalId) (from by : ℕ) (t : Tree) → StrictlyPositive ids t → StrictlyPositive ids (lift_tree from by t) }
     ensures substitution { (ids : List GlobalId) (s : ℕ → Tree) (t : Tree) → ((x : ℕ) → Absent ids (s x)) → StrictlyPositive ids t → StrictlyPositive ids (substitute s t) }
     ensures at_place { (ids : List GlobalId) (at : ℕ) (u t : Tree) → Absent ids u → StrictlyPositive ids t → StrictlyPositive ids (subst_tree at u t) }
+{}
+
+/// What a renaming, and a substitution, makes of a Fix is the Fix with the functions that it makes of its own.
+#[tactic(auto, using(crate::proofs::GuardsFunctions::rename_fixpoint, crate::proofs::Telescopes::substitute_fixpoint))]
+pub fn fix_under_substitution()
+    ensures renaming { (r : ℕ → ℕ) (which : ℕ) (fs : List Function) → rename r (fixpoint which fs) ≡ fixpoint which (rename_functions r fs) }
+    ensures substitution { (s : ℕ → Tree) (which : ℕ) (fs : List Function) → substitute s (fixpoint which fs) ≡ fixpoint which (substitute_functions s fs) }
 {}
