@@ -7,3 +7,5 @@ pub mod BudgetsSteps
 pub mod Composition
 pub mod LiftAndSubst
 pub mod Commuting
+pub mod EvaluationReadings
+pub mod EvaluationSteps

@@ -3,4 +3,5 @@
 #![tactic(auto)]
 
 pub mod budgets;
+pub mod evaluation;
 pub mod substitution;
