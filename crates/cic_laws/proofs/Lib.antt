@@ -9,3 +9,5 @@ pub mod LiftAndSubst
 pub mod Commuting
 pub mod EvaluationReadings
 pub mod EvaluationSteps
+pub mod EvaluationSorts
+pub mod EvaluationConversion
