@@ -48,19 +48,19 @@ within_more h = record { steps = (let p = h.steps in omega (arith, p)); met = h.
 
 -- Steps before a conversion
 module _ (E : Environment) (N : Numbering) (G : Context) where
-  convertible_left : {a b c : Tree} → Reaches E G a b → Convertible E N G b c → Convertible E N G a c
+  pub convertible_left : {a b c : Tree} → Reaches E G a b → Convertible E N G b c → Convertible E N G a c
   convertible_left arrived h = h
   convertible_left (onward s p) h = C.Convertible.step_left s (convertible_left p h)
 
-  convertible_right : {a b c : Tree} → Reaches E G a b → Convertible E N G c b → Convertible E N G c a
+  pub convertible_right : {a b c : Tree} → Reaches E G a b → Convertible E N G c b → Convertible E N G c a
   convertible_right arrived h = h
   convertible_right (onward s p) h = C.Convertible.step_right s (convertible_right p h)
 
-  at_most_left : {a b c : Tree} → Reaches E G a b → AtMost E N G b c → AtMost E N G a c
+  pub at_most_left : {a b c : Tree} → Reaches E G a b → AtMost E N G b c → AtMost E N G a c
   at_most_left arrived h = h
   at_most_left (onward s p) h = C.AtMost.step_left s (at_most_left p h)
 
-  at_most_right : {a b c : Tree} → Reaches E G a b → AtMost E N G c b → AtMost E N G c a
+  pub at_most_right : {a b c : Tree} → Reaches E G a b → AtMost E N G c b → AtMost E N G c a
   at_most_right arrived h = h
   at_most_right (onward s p) h = C.AtMost.step_right s (at_most_right p h)
 
@@ -278,7 +278,7 @@ conversion_is_right E N G k t t' u b b' closed e met =
 
 module _ (E : Environment) (closed : ClosedBodies E) (N : Numbering) where
   mutual
-    cumulated_is_at_most : {G : Context} {a b : Tree} {c : Cost} → Cumulates E G a b c → MeetsAll N c.found → AtMost E N G a b
+    pub cumulated_is_at_most : {G : Context} {a b : Tree} {c : Cost} → Cumulates E G a b c → MeetsAll N c.found → AtMost E N G a b
     cumulated_is_at_most (cumulates_same {a = a} {b = b} q kq) met = convertible (identical (same_tree-is a b q))
     cumulated_is_at_most (cumulates_heads {G = G} {c = c} {d = d} {e = e} q hv hw hc kq) met =
         at_most_left E N G (evaluates_reaches E closed G hv)

@@ -25,7 +25,7 @@ inserted_met N found (c ∷ cs) h =
     let p = insert_met N c found r.1 in
     ((p.0, r.0), p.1)
 
-met_along : (N : Numbering) {k c : Cost} → k ≡ c → MeetsAll N k.found → MeetsAll N c.found
+pub met_along : (N : Numbering) {k c : Cost} → k ≡ c → MeetsAll N k.found → MeetsAll N c.found
 met_along N e h = subst (λ (z : Cost). MeetsAll N z.found) e h
 
 -- Numbers of expressions
