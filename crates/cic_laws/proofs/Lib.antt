@@ -25,3 +25,7 @@ pub mod GuardsTogether
 pub mod Typing
 pub mod TypedWeakening
 pub mod Growing
+pub mod EvaluationReadings
+pub mod EvaluationSteps
+pub mod EvaluationSorts
+pub mod EvaluationConversion

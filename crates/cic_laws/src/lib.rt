@@ -23,3 +23,5 @@ pub use substitution::{
     lift_after_lift, lift_and_subst, lift_renames, renaming_and_substitution, subst_after_lift,
     subst_after_subst, subst_substitutes,
 };
+pub mod evaluation;
+pub mod substitution;
