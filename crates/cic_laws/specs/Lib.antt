@@ -1,4 +1,3 @@
--- What the laws speak of beyond the rules and the check.
 -- What the laws speak of, beside the definitions of the crates below.
 pub mod Budgets
 pub mod Guards
