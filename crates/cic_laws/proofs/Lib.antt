@@ -11,3 +11,4 @@ pub mod Guards
 pub mod Typing
 pub mod TypedWeakening
 pub mod Growing
+pub mod ProductParts

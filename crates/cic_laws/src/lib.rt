@@ -3,6 +3,7 @@
 
 mod conversion;
 mod derivation;
+mod generation;
 mod growth;
 mod guard;
 mod substitution;
@@ -14,6 +15,7 @@ pub use conversion::{
 pub use derivation::{
     instance_keeps_typing, renaming_keeps_typing, substitution_keeps_typing, weakening_keeps_typing,
 };
+pub use generation::parts_of_products_have_sorts;
 pub use growth::more_declarations_grow;
 pub use guard::substitution_keeps_guard;
 pub use substitution::{
