@@ -12,3 +12,4 @@ pub mod Typing
 pub mod TypedWeakening
 pub mod Growing
 pub mod ProductParts
+pub mod Scopes

@@ -6,6 +6,7 @@ mod derivation;
 mod generation;
 mod growth;
 mod guard;
+mod scope;
 mod substitution;
 
 pub use conversion::{
@@ -18,6 +19,7 @@ pub use derivation::{
 pub use generation::parts_of_products_have_sorts;
 pub use growth::more_declarations_grow;
 pub use guard::substitution_keeps_guard;
+pub use scope::typed_terms_are_scoped;
 pub use substitution::{
     lift_after_lift, lift_and_subst, lift_renames, renaming_and_substitution, subst_after_lift,
     subst_after_subst, subst_substitutes,
