@@ -229,7 +229,7 @@ mutual
       (typed_under E E' N K gt (substitution_under (length domains) s) (extend D (substitute_domains s domains)) (good_extended E E' K.kind domains s G D h)))
       (branches_under E E' N K br s D h)
 
-  eliminated_under : (E E' : Environment) (N : Numbering) (K : TypedKind E E' N) {r : ℕ} {I : TypeDeclaration} {z : TreeSort} → Eliminated E N r I z → Eliminated E' N r I z
+  pub eliminated_under : (E E' : Environment) (N : Numbering) (K : TypedKind E E' N) {r : ℕ} {I : TypeDeclaration} {z : TreeSort} → Eliminated E N r I z → Eliminated E' N r I z
   eliminated_under E E' N K into_prop = into_prop
   eliminated_under E E' N K (of_no_proposition domains s' e n) = of_no_proposition domains s' e n
   eliminated_under E E' N K (without_constructor e) = without_constructor e
