@@ -122,3 +122,6 @@ rename_as_substitute t r = sym (substitute_identity (rename r t) rel (λ x. refl
 
 pub rename_identity : (t : Tree) (r : ℕ → ℕ) → ((x : ℕ) → r x ≡ x) → rename r t ≡ t
 rename_identity t r h = rename_as_substitute t r ∙ substitute_identity t (λ x. rel (r x)) (λ x. ap rel (h x))
+
+pub unchanged_by_identity : (t : Tree) → t ≡ rename (λ x. x) t
+unchanged_by_identity t = sym (rename_identity t (λ x. x) (λ x. refl))

@@ -29,3 +29,5 @@ pub mod EvaluationReadings
 pub mod EvaluationSteps
 pub mod EvaluationSorts
 pub mod EvaluationConversion
+pub mod ProductParts
+pub mod Scopes

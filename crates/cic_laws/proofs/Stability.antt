@@ -1,7 +1,7 @@
 -- Steps, conversion and subtyping stay where the environment grows, where variables are renamed, under one
 -- more entry, and where terms are put in for variables. Each is what the two kinds of substitutions say, read
 -- for the calls that the rules are written with.
-use Rattle.std.proofs.Common.{◌≡◌, ℕ, suc, ◌∷◌, refl, sym, inl, inr}
+use Rattle.std.proofs.Common.{ℕ, suc, ◌∷◌, inl, inr}
 use Rattle.cic_terms.specs.Tree.{Tree, rel}
 use Rattle.cic_terms.specs.Lift.{lift_tree, subst_tree}
 use Rattle.cic_rules.specs.Numbering.{Numbering}
@@ -10,7 +10,7 @@ use Rattle.cic_rules.specs.Step.{Step}
 use Rattle.cic_rules.specs.Conversion.{Convertible, AtMost}
 use Rattle.cic_laws.specs.Substitution.{rename, substitute, for_innermost}
 use Rattle.cic_laws.specs.Growth.{Grows, RenamesContext, StepsAtMostOnce, SubstitutesContext}
-use Rattle.cic_laws.proofs.Composition.{rename_as_substitute, rename_identity}
+use Rattle.cic_laws.proofs.Composition.{rename_as_substitute, unchanged_by_identity}
 use Rattle.cic_laws.proofs.LiftAndSubst.{lift_by_one, subst_innermost}
 use Rattle.cic_laws.proofs.Contexts.{Moves}
 use Rattle.cic_laws.proofs.Steps.{step_under}
@@ -41,17 +41,14 @@ at_most_renamed E E' N r G D a b g h q =
     rw (rename_as_substitute a r, rename_as_substitute b r)
     (at_most_under E E' (renamings E E' g) N q (λ x. rel (r x)) D (as_renaming r G D h))
 
-unchanged : (t : Tree) → t ≡ rename (λ x. x) t
-unchanged t = sym (rename_identity t (λ x. x) (λ x. refl))
-
 pub step_grows : (E E' : Environment) (G : Context) (t t' : Tree) → Grows E E' → Step E G t t' → Step E' G t t'
-step_grows E E' G t t' g q = rw (unchanged t, unchanged t') (step_renamed E E' (λ x. x) G G t t' g (renames_nothing G) q)
+step_grows E E' G t t' g q = rw (unchanged_by_identity t, unchanged_by_identity t') (step_renamed E E' (λ x. x) G G t t' g (renames_nothing G) q)
 
 pub convertible_grows : (E E' : Environment) (N : Numbering) (G : Context) (a b : Tree) → Grows E E' → Convertible E N G a b → Convertible E' N G a b
-convertible_grows E E' N G a b g q = rw (unchanged a, unchanged b) (convertible_renamed E E' N (λ x. x) G G a b g (renames_nothing G) q)
+convertible_grows E E' N G a b g q = rw (unchanged_by_identity a, unchanged_by_identity b) (convertible_renamed E E' N (λ x. x) G G a b g (renames_nothing G) q)
 
 pub at_most_grows : (E E' : Environment) (N : Numbering) (G : Context) (a b : Tree) → Grows E E' → AtMost E N G a b → AtMost E' N G a b
-at_most_grows E E' N G a b g q = rw (unchanged a, unchanged b) (at_most_renamed E E' N (λ x. x) G G a b g (renames_nothing G) q)
+at_most_grows E E' N G a b g q = rw (unchanged_by_identity a, unchanged_by_identity b) (at_most_renamed E E' N (λ x. x) G G a b g (renames_nothing G) q)
 
 -- One more entry
 pub step_weakens : (E : Environment) (G : Context) (e : Entry) (t t' : Tree) → Step E G t t' → Step E (e ∷ G) (lift_tree 0 1 t) (lift_tree 0 1 t')

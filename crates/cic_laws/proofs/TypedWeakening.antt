@@ -1,20 +1,20 @@
 -- The two kinds of substitutions keep typing too: renamings that keep the types of variables, and terms that
 -- have the types of the variables that they are put in for. That the second goes under binders rests on the first.
 use Rattle.std.proofs.Common.{◌≡◌, ℕ, zero, suc, ◌+◌, [], ◌∷◌, Option, Some, None, refl, sym, ap, ◌∙◌, arith}
-use Rattle.cic_terms.specs.Tree.{Tree, rel}
+use Rattle.cic_terms.specs.Tree.{TreeSort, Tree, rel}
 use Rattle.cic_terms.specs.Lift.{lift_tree, subst_tree}
 use Rattle.cic_rules.specs.Numbering.{Numbering}
-use Rattle.cic_rules.specs.Environment.{Environment, Context, Entry, assumed, defined}
+use Rattle.cic_rules.specs.Environment.{Environment, Context, Entry, assumed, defined, TypeDeclaration}
 use Rattle.cic_rules.specs.Typing as T
-use Rattle.cic_rules.specs.Typing.{Typed}
+use Rattle.cic_rules.specs.Typing.{Typed, Eliminated}
 use Rattle.cic_laws.specs.Substitution.{renaming_under_one, rename, substitution_under_one, substitute, for_innermost}
 use Rattle.cic_laws.specs.Growth.{Grows}
 use Rattle.cic_laws.specs.TypedContexts.{HasType, RenamesTypedContext, SubstitutesTypedContext}
-use Rattle.cic_laws.proofs.Composition.{rename_as_substitute, rename_identity}
+use Rattle.cic_laws.proofs.Composition.{rename_as_substitute, rename_identity, unchanged_by_identity}
 use Rattle.cic_laws.proofs.LiftAndSubst.{lift_by_one, subst_innermost, substitute_lift_by_one}
 use Rattle.cic_laws.proofs.Contexts.{map_tree, substitute_entry, lift_past_one_more}
 use Rattle.cic_laws.proofs.Weakening.{Renaming, substitute_by_renaming, rename_past_binder, renaming_goes_under, renaming_unfolds, renamings, as_renaming, renames_past_entry, renames_nothing, grows_alike, substitution_goes_under, substitutions, substitutes_innermost, innermost_past_binder}
-use Rattle.cic_laws.proofs.Typing.{TypedKind, typed_under}
+use Rattle.cic_laws.proofs.Typing.{TypedKind, typed_under, eliminated_under}
 
 -- The types of variables under one more entry
 type_here : (G : Context) (e : Entry) (a : Tree) → e.type ≡ Some a → HasType (e ∷ G) zero (rename suc a)
@@ -88,13 +88,13 @@ typed_renamed E E' N r G D t a g h q =
     rw (rename_as_substitute t r, rename_as_substitute a r)
     (typed_under E E' N (typed_renamings E E' N g) q (λ x. rel (r x)) D (record { context = as_renaming r G D h.context; types = h.types }))
 
-unchanged : (t : Tree) → t ≡ rename (λ x. x) t
-unchanged t = sym (rename_identity t (λ x. x) (λ x. refl))
-
 pub typed_grows : (E E' : Environment) (N : Numbering) (G : Context) (t a : Tree) → Grows E E' → Typed E N G t a → Typed E' N G t a
 typed_grows E E' N G t a g q =
-    rw (unchanged t, unchanged a)
+    rw (unchanged_by_identity t, unchanged_by_identity a)
     (typed_renamed E E' N (λ x. x) G G t a g (record { context = renames_nothing G; types = λ x t a. rw (rename_identity t (λ y. y) (λ y. refl)) a }) q)
+
+pub elimination_grows : (E E' : Environment) (N : Numbering) (r : ℕ) (I : TypeDeclaration) (s : TreeSort) → Grows E E' → Eliminated E N r I s → Eliminated E' N r I s
+elimination_grows E E' N r I s g h = eliminated_under E E' N (typed_renamings E E' N g) h
 
 typed_past_entry : (E : Environment) (N : Numbering) (G : Context) (e : Entry) (t a : Tree) → Typed E N G t a → Typed E N (e ∷ G) (rename suc t) (rename suc a)
 typed_past_entry E N G e t a q =

@@ -28,7 +28,7 @@ pub record TypedKind (E E' : Environment) (N : Numbering) : Type 1 where
   pub types : (s : ℕ → Tree) (G D : Context) → kind.Good s G D → (x : ℕ) (t : Tree) → HasType G x t → Typed E' N D (s x) (substitute s t)
 
 -- Telescopes
-substitute_products : (as_ : List Tree) (t : Tree) (s : ℕ → Tree) → substitute s (products as_ t) ≡ products (substitute_domains s as_) (substitute (substitution_under (length as_) s) t)
+pub substitute_products : (as_ : List Tree) (t : Tree) (s : ℕ → Tree) → substitute s (products as_ t) ≡ products (substitute_domains s as_) (substitute (substitution_under (length as_) s) t)
 unfolding substitute substitution_under
 substitute_products [] t s = refl
 substitute_products (a ∷ as_) t s = ap (prod (substitute s a)) (substitute_products as_ t (substitution_under_one s))
@@ -61,7 +61,7 @@ unfolding substitution_under
 lift_all_under n [] s = refl
 lift_all_under n (u ∷ us) s = ap₂ ◌∷◌ (substitute_lift 0 n u s) (lift_all_under n us s)
 
-inductive_in_two : (c : GlobalId) (us vs : List Tree) (s : ℕ → Tree) (w : Tree) → w ≡ apply (ind c) (us ++ vs) → substitute s w ≡ apply (ind c) (map (substitute s) us ++ map (substitute s) vs)
+pub inductive_in_two : (c : GlobalId) (us vs : List Tree) (s : ℕ → Tree) (w : Tree) → w ≡ apply (ind c) (us ++ vs) → substitute s w ≡ apply (ind c) (map (substitute s) us ++ map (substitute s) vs)
 inductive_in_two c us vs s w e = ap (substitute s) e ∙ substitute_inductive c (us ++ vs) s ∙ ap (apply (ind c)) (map-append (substitute s) us vs)
 
 -- The type of the value of a match under the indices, and a constructor under its arguments
@@ -229,7 +229,7 @@ mutual
       (typed_under E E' N K gt (substitution_under (length domains) s) (extend D (substitute_domains s domains)) (good_extended E E' K.kind domains s G D h)))
       (branches_under E E' N K br s D h)
 
-  eliminated_under : (E E' : Environment) (N : Numbering) (K : TypedKind E E' N) {r : ℕ} {I : TypeDeclaration} {z : TreeSort} → Eliminated E N r I z → Eliminated E' N r I z
+  pub eliminated_under : (E E' : Environment) (N : Numbering) (K : TypedKind E E' N) {r : ℕ} {I : TypeDeclaration} {z : TreeSort} → Eliminated E N r I z → Eliminated E' N r I z
   eliminated_under E E' N K into_prop = into_prop
   eliminated_under E E' N K (of_no_proposition domains s' e n) = of_no_proposition domains s' e n
   eliminated_under E E' N K (without_constructor e) = without_constructor e

@@ -1,19 +1,20 @@
 //! Laws: typing stays where the environment grows, and under renaming and substitution of variables.
 ghost use Rattle.std.specs.Prelude.{◌∷◌, ℕ};
-ghost use Rattle.cic_terms.specs.Tree.{Tree};
+ghost use Rattle.cic_terms.specs.Tree.{Tree, TreeSort};
 ghost use Rattle.cic_terms.specs.Lift.{lift_tree, subst_tree};
 ghost use Rattle.cic_rules.specs.Numbering.{Numbering};
-ghost use Rattle.cic_rules.specs.Environment.{Environment, Context, Entry, assumed, defined};
-ghost use Rattle.cic_rules.specs.Typing.{Typed};
+ghost use Rattle.cic_rules.specs.Environment.{Environment, Context, Entry, TypeDeclaration, assumed, defined};
+ghost use Rattle.cic_rules.specs.Typing.{Typed, Eliminated};
 ghost use Rattle.cic_laws.specs.Substitution.{rename, substitute};
 ghost use Rattle.cic_laws.specs.Growth.{Grows};
 ghost use Rattle.cic_laws.specs.TypedContexts.{RenamesTypedContext, SubstitutesTypedContext};
 
 /// What is typed over an environment is so over one that shows all that it shows, and what is typed under a
 /// context is so under one more entry of any kind (Coq Reference Manual, "Typing rules": weakening).
-#[tactic(auto, using(crate::proofs::TypedWeakening::typed_grows, crate::proofs::TypedWeakening::typed_weakens))]
+#[tactic(auto, using(crate::proofs::TypedWeakening::typed_grows, crate::proofs::TypedWeakening::typed_weakens, crate::proofs::TypedWeakening::elimination_grows))]
 pub fn weakening_keeps_typing()
     ensures of_environment { (E E' : Environment) (N : Numbering) (G : Context) (t a : Tree) → Grows E E' → Typed E N G t a → Typed E' N G t a }
+    ensures elimination { (E E' : Environment) (N : Numbering) (parameters : ℕ) (T : TypeDeclaration) (s : TreeSort) → Grows E E' → Eliminated E N parameters T s → Eliminated E' N parameters T s }
     ensures of_context { (E : Environment) (N : Numbering) (G : Context) (e : Entry) (t a : Tree) → Typed E N G t a → Typed E N (e ∷ G) (lift_tree 0 1 t) (lift_tree 0 1 a) }
 {}
 

@@ -1,0 +1,17 @@
+//! Law: a term that has a type has no free variable past its context.
+ghost use Rattle.std.specs.Prelude.{◌≡◌, ◌<◌, ℕ, [], length};
+ghost use Rattle.cic_terms.specs.Tree.{Tree, rel};
+ghost use Rattle.cic_terms.specs.Lift.{lift_tree, subst_tree};
+ghost use Rattle.cic_rules.specs.Numbering.{Numbering};
+ghost use Rattle.cic_rules.specs.Environment.{Environment, Context};
+ghost use Rattle.cic_rules.specs.Typing.{Typed};
+ghost use Rattle.cic_laws.specs.Substitution.{substitute};
+
+/// A substitution that keeps the variables of a context keeps each term that has a type there. So one that
+/// has a type in the empty context is closed: no lift and no substitution changes it.
+#[tactic(auto, using(crate::proofs::Scopes::typed_keeps_under, crate::proofs::Scopes::closed_lifts, crate::proofs::Scopes::closed_keeps_under_subst))]
+pub fn typed_terms_are_scoped()
+    ensures in_context { (E : Environment) (N : Numbering) (G : Context) (t a : Tree) (s : ℕ → Tree) → ((x : ℕ) → x < length G → s x ≡ rel x) → Typed E N G t a → substitute s t ≡ t }
+    ensures closed_lift { (E : Environment) (N : Numbering) (t a : Tree) (from by : ℕ) → Typed E N [] t a → lift_tree from by t ≡ t }
+    ensures closed_subst { (E : Environment) (N : Numbering) (t a : Tree) (at : ℕ) (u : Tree) → Typed E N [] t a → subst_tree at u t ≡ t }
+{}
