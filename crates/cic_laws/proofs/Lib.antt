@@ -3,3 +3,5 @@ pub mod BudgetsEvaluation
 pub mod BudgetsTyping
 pub mod BudgetsChecking
 pub mod BudgetsSteps
+pub mod EnvironmentsAgree
+pub mod EnvironmentsChecking
