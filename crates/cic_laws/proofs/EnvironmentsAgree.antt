@@ -1,18 +1,18 @@
 -- Two environments in which every id stands for the same: each counted function answers the same over
 -- both. The functions see an environment through its lookups, and these through what an id stands for.
-use Rattle.std.proofs.Common.{◌≡◌, ℕ, zero, suc, ◌+◌, ◌-◌, Option, Some, None, List, [], ◌∷◌, ◌++◌, length, refl, ap, ap₂, ◌∙◌}
+use Rattle.std.proofs.Common.{◌≡◌, ℕ, zero, suc, ◌+◌, ◌-◌, Option, List, [], ◌∷◌, length, refl, ap, ap₂, ◌∙◌}
 use Rattle.std.proofs.Math.Path.{fun_ext}
-use Rattle.std.specs.Prelude.{option_map, option_and_then}
-use Rattle.cic_terms.specs.Tree.{Shape, Tree, rel, node, Children, sort, prod, lam, let_in, app, const, ind, ctor, case, fix}
+use Rattle.std.specs.Prelude.{option_map}
+use Rattle.cic_terms.specs.Tree.{Tree, rel, Children, sort, prod, lam, let_in, app, const, ind, ctor, case, fix}
 use Rattle.cic_terms.specs.declared.name.GlobalId.{GlobalId}
-use Rattle.cic_rules.specs.Environment.{Environment, Context, Declaration, axiom_of, transparent, opaque, inductive, Block, Item, bare, item_meaning, Meaning, or_else, meaning, constant_type_in, transparent_body_in, arity_in, whole_block_in, TypeInBlock, constructor_in, element}
+use Rattle.cic_rules.specs.Environment.{Environment, Context, Meaning, or_else, meaning, constant_type_in, transparent_body_in, arity_in, whole_block_in, constructor_in, element}
 use Rattle.cic_rules.specs.Telescopes.{head_of, arguments_of, Function, functions_of, function_types, function_type}
 use Rattle.cic_rules.specs.Guard.{recursive_marks, marks_in_block, body_marks, recursive_places, Mark}
-use Rattle.cic_counted.specs.BlockTests.{is_shaped, index_count, shape_fault, positivity_fault}
-use Rattle.cic_counted.specs.GuardTest.{walk, failed_call, walk_fault, head_of_domain, function_fault, Unguarded, functions_fault, guard_fault}
+use Rattle.cic_counted.specs.BlockTests.{is_shaped, index_count}
+use Rattle.cic_counted.specs.GuardTest.{walk, failed_call, walk_fault, head_of_domain, Unguarded, functions_fault, guard_fault}
 use Rattle.cic_counted.specs.Outcome.{Counted, global, unbound, unguarded, spent, ◌>>=◌, ◌>>◌, give, stop, or_refuse, require, refuse_for, tick}
 use Rattle.cic_counted.specs.Evaluation.{Turn, constant_turn, selected, matched, match_turn, turn_of, goes_on, loop_of, whnf_at, conv_step, conv_at, cumul_step, cumul_at}
-use Rattle.cic_counted.specs.Inference.{Calls, infer_match, infer_case, sort_each, function_context, check_bodies, infer_fix, infer_step, check_step, sort_step, calls_at, calls_from}
+use Rattle.cic_counted.specs.Inference.{Calls, infer_match, sort_each, function_context, check_bodies, infer_step, check_step, sort_step, calls_at, calls_from}
 
 module _ (E E' : Environment) (e : (id : GlobalId) → meaning E id ≡ meaning E' id) where
   matched_agrees : (id : GlobalId) (branches : Children) (us : List Tree) (t : Tree) → matched E id branches us t ≡ matched E' id branches us t

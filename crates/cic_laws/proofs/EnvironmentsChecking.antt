@@ -1,13 +1,17 @@
 -- The check of one declaration answers the same over two environments in which every id stands for the
--- same; what an id stands for is left by taking opaque bodies away, and by another order.
-use Rattle.std.proofs.Common.{◌≡◌, ℕ, Option, Some, None, List, [], ◌∷◌, ◌++◌, refl, ap, ap₂, ◌∙◌, sym}
+-- same: so it depends neither on opaque bodies nor on the order.
+use Rattle.std.proofs.Common.{◌≡◌, ℕ, Option, Some, None, [], ◌∷◌, ◌++◌, refl, ap, ap₂, ◌∙◌, sym}
 use Rattle.std.specs.Prelude.{option_and_then}
 use Rattle.cic_terms.specs.declared.name.GlobalId.{GlobalId}
-use Rattle.cic_rules.specs.Environment.{Environment, Declaration, axiom_of, transparent, opaque, inductive, Block, bare, item_meaning, or_else, meaning}
+use Rattle.cic_rules.specs.Environment.{Environment, Declaration, axiom_of, transparent, opaque, inductive, Block, bare, environment_ids, item_meaning, or_else, meaning}
 use Rattle.cic_counted.specs.BlockTests.{shape_fault, positivity_fault}
 use Rattle.cic_counted.specs.Outcome.{Counted, ◌>>=◌, ◌>>◌, give, refuse_for}
-use Rattle.cic_counted.specs.Inference.{Calls, calls_from}
+use Rattle.cic_counted.specs.Inference.{Calls}
 use Rattle.cic_counted.specs.Checking.{Split, take_found, all_visible, shape_cause, positivity_cause, check_arities, check_types, check_block, judge, answer_of, check_declaration}
+use Rattle.cic_rules.specs.Formed.{Distinct}
+use Rattle.std.specs.Prelude.{IsPermutation}
+use Rattle.cic_laws.specs.Environments.{without_opaque_bodies}
+use Rattle.cic_laws.proofs.EnvironmentsOrder.{meaning_without_opaque_bodies, meaning_in_any_order}
 use Rattle.cic_laws.proofs.EnvironmentsAgree.{calls_agree}
 
 or_else_associates : {A : Type 0} (a b c : Option A) → or_else (or_else a b) c ≡ or_else a (or_else b c)
@@ -52,3 +56,13 @@ pub check_agrees : (E E' : Environment) (d : Declaration) (budget : ℕ) → ((i
 unfolding check_declaration
 check_agrees E E' d budget e =
     ap (λ (m : Counted Split). answer_of budget (m (record { rest = budget; found = [] }))) (judge_agrees E E' e d)
+
+pub check_without_opaque_bodies : (E : Environment) (d : Declaration) (budget : ℕ) → check_declaration (without_opaque_bodies E) d budget ≡ check_declaration E d budget
+check_without_opaque_bodies E d budget = check_agrees (without_opaque_bodies E) E d budget (meaning_without_opaque_bodies E)
+
+pub check_up_to_opaque_bodies : (E E' : Environment) (d : Declaration) (budget : ℕ) → without_opaque_bodies E ≡ without_opaque_bodies E' → check_declaration E d budget ≡ check_declaration E' d budget
+check_up_to_opaque_bodies E E' d budget e =
+    sym (check_without_opaque_bodies E d budget) ∙ ap (λ F. check_declaration F d budget) e ∙ check_without_opaque_bodies E' d budget
+
+pub check_in_any_order : (E E' : Environment) (d : Declaration) (budget : ℕ) → IsPermutation E E' → Distinct (environment_ids E) → check_declaration E d budget ≡ check_declaration E' d budget
+check_in_any_order E E' d budget p distinct = check_agrees E E' d budget (meaning_in_any_order E E' p distinct)

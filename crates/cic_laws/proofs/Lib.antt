@@ -4,4 +4,5 @@ pub mod BudgetsTyping
 pub mod BudgetsChecking
 pub mod BudgetsSteps
 pub mod EnvironmentsAgree
+pub mod EnvironmentsOrder
 pub mod EnvironmentsChecking

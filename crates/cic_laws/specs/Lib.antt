@@ -1,1 +1,2 @@
--- No definitions of its own: the laws speak of those of the crates below.
+-- What the laws on environments speak of. The other laws speak of the definitions of the crates below.
+pub mod Environments

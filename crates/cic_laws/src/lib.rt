@@ -3,3 +3,4 @@
 #![tactic(auto)]
 
 pub mod budgets;
+pub mod environments;
