@@ -5,4 +5,6 @@ pub mod BudgetsChecking
 pub mod BudgetsSteps
 pub mod EnvironmentsAgree
 pub mod EnvironmentsOrder
+pub mod EnvironmentsTerms
+pub mod EnvironmentsGuard
 pub mod EnvironmentsChecking
