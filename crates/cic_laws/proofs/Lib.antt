@@ -7,4 +7,6 @@ pub mod EnvironmentsAgree
 pub mod EnvironmentsOrder
 pub mod EnvironmentsTerms
 pub mod EnvironmentsGuard
+pub mod EnvironmentsCalls
+pub mod EnvironmentsEvaluation
 pub mod EnvironmentsChecking
