@@ -118,3 +118,6 @@ module _ (S : GlobalId → Type 0) where
   pub constructor_within : (o : Option Meaning) → Within MeaningIn o → Within (TreeIn S) (option_map (λ k. k.type) (constructor_in o))
   constructor_within (Some (constructor block index place)) h = of_block_in block place (element block.types index) (each_element TypeIn block.types index h)
   constructor_within _ h = tt
+
+pub alike_lookup : {A : Type 0} (P : A → Type 0) (o o' : Option A) (c : Cause) → o ≡ o' → Within P o → Alike P (or_refuse o c) (or_refuse o' c)
+alike_lookup P o o' c e h = alike_to (ap (λ z. or_refuse z c) e) (alike_or_refuse P o c h)

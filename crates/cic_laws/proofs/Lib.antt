@@ -9,4 +9,5 @@ pub mod EnvironmentsTerms
 pub mod EnvironmentsGuard
 pub mod EnvironmentsCalls
 pub mod EnvironmentsEvaluation
+pub mod EnvironmentsTyping
 pub mod EnvironmentsChecking
