@@ -39,10 +39,10 @@ same_id-true a b h =
     let names = same_bytes-true a.name b.name (second_so (same_list nat_eq a.lib b.lib) (same_list nat_eq a.name b.name) h) in
     λ i. record { lib = libs i; name = names i }
 
-contains_first : {X : Type 0} (x y : X) (xs : List X) → x ≡ y → Contains (x ∷ xs) y
+pub contains_first : {X : Type 0} (x y : X) (xs : List X) → x ≡ y → Contains (x ∷ xs) y
 contains_first x y xs e = (0, omega arith, e)
 
-contains_rest : {X : Type 0} (x y : X) (xs : List X) → Contains xs y → Contains (x ∷ xs) y
+pub contains_rest : {X : Type 0} (x y : X) (xs : List X) → Contains xs y → Contains (x ∷ xs) y
 contains_rest x y xs h = let lt = h.1 in (suc h.0, omega (arith, lt), h.2)
 
 contains_cases : {X : Type 0} (x y : X) (xs : List X) → Contains (x ∷ xs) y → (x ≡ y) ⊎ Contains xs y

@@ -11,3 +11,4 @@ pub mod EnvironmentsCalls
 pub mod EnvironmentsEvaluation
 pub mod EnvironmentsTyping
 pub mod EnvironmentsChecking
+pub mod EnvironmentsReached
