@@ -6,7 +6,7 @@ use Rattle.cic_terms.specs.Tree.{Tree}
 use Rattle.cic_terms.specs.declared.name.GlobalId.{GlobalId}
 use Rattle.cic_rules.specs.Inductive.{Each}
 use Rattle.cic_rules.specs.Environment.{ConstructorDeclaration, TypeDeclaration, Block, Meaning, constant, whole_type, bare_type, constructor, element, constant_type_in, transparent_body_in, arity_in_block, arity_in, whole_block_in, constructor_in_type, constructor_in_block, constructor_in}
-use Rattle.cic_counted.specs.Outcome.{Budget, Outcome, done, stops, Stopped, Cause, deep, refused, Counted, follow, ◌>>=◌, ◌>>◌, give, stop, refuse, or_refuse, is_small, fitting, fitting_all}
+use Rattle.cic_counted.specs.Outcome.{Budget, Outcome, done, stops, Stopped, Cause, deep, refused, Counted, follow, ◌>>=◌, ◌>>◌, give, stop, or_refuse, is_small, fitting, fitting_all}
 use Rattle.cic_counted.proofs.Taken.{done_value}
 use Rattle.cic_laws.proofs.EnvironmentsTerms.{Within, each_element, TreeIn, TreesIn}
 

@@ -1,15 +1,15 @@
 -- Evaluation, conversion and subtyping answer the same over two environments that agree on a set of ids,
 -- where the terms name ids of the set alone and so does what these ids stand for. It follows the text of
 -- each definition, and is by induction on what is left of the depth.
-use Rattle.std.proofs.Common.{◌≡◌, ℕ, zero, suc, ◌+◌, Bool, true, false, if◌then◌else◌, ◌&&◌, nat_eq, Option, Some, None, List, [], ◌∷◌, length, drop, refl, ap}
+use Rattle.std.proofs.Common.{◌≡◌, ℕ, zero, suc, ◌+◌, Bool, true, false, if◌then◌else◌, ◌&&◌, nat_eq, Option, Some, None, List, ◌∷◌, length, drop, refl, ap}
 use Rattle.std.specs.Prelude.{option_and_then}
-use Rattle.cic_terms.specs.Tree.{TreeSort, prop, set, typ, Former, LetF, CaseF, FixF, over, Tree, rel, node, Children, child, sort, prod, lam, let_in, app, const, ctor, case, fix}
+use Rattle.cic_terms.specs.Tree.{Former, LetF, CaseF, FixF, over, Tree, rel, node, Children, child, sort, prod, lam, let_in, app, const, ctor, case, fix}
 use Rattle.cic_terms.specs.Lift.{lift_tree, subst_tree}
 use Rattle.cic_terms.specs.declared.name.GlobalId.{GlobalId}
 use Rattle.cic_rules.specs.Sameness.{same_id, same_shapes, same_former, same_tree}
-use Rattle.cic_rules.specs.Environment.{Environment, Context, Meaning, meaning, transparent_body, transparent_body_in, Constructor, constructor_of, constructor_in, element, body_at, unknown, under_unknown}
+use Rattle.cic_rules.specs.Environment.{Environment, Context, meaning, transparent_body, transparent_body_in, Constructor, constructor_of, constructor_in, element, body_at, unknown, under_unknown}
 use Rattle.cic_rules.specs.Telescopes.{apply, head_of, arguments_of, abstractions, substitute_all, lift_domains, BranchParts, branch_at, Function, functions_of, function_types, unfolded}
-use Rattle.cic_counted.specs.Outcome.{Budget, Counted, spent, deep, stop, give, tick}
+use Rattle.cic_counted.specs.Outcome.{Counted, spent, deep, stop, give, tick}
 use Rattle.cic_counted.specs.Evaluation.{Turn, answer, again, reduce, variable_turn, constant_turn, is_constructor, unfolded_at, unfolds, recursive_turn, fix_turn, application_turn, branch_result, selected, matched, match_turn, turn_of, goes_on, loop_of, whnf_at, differ, equal_sorts, sorts_at_most, same_places, convert_children, convert_each, fitting_body, convert_bodies, convert_functions, value_first, compare_nodes, compare, conv_at, below_or_equal, cumul_at}
 use Rattle.cic_laws.proofs.EnvironmentsTerms.{Within, each_element, each_dropped, TreeIn, PartsIn, TreesIn, ContextIn, FunctionIn, FunctionsIn, lift_in, subst_in, apply_in, head_in, arguments_in, abstractions_in, under_unknown_in, body_at_in, substitute_all_in, lift_domains_in, branch_in, functions_in, unfolded_in, function_types_in}
 use Rattle.cic_laws.proofs.EnvironmentsCalls.{Any, Alike, alike_itself, alike_give, alike_stop, alike_bind, alike_then, alike_if, alike_within, alike_to, alike_fitting, alike_fitting_all, MeaningIn, transparent_in}

@@ -1,15 +1,14 @@
 -- The test of the guard reads the marks of constructors at the ids of its terms alone: where two
 -- environments agree there, it has the same answer over both.
-use Rattle.std.proofs.Common.{◌≡◌, ℕ, zero, suc, ◌+◌, Bool, true, false, if◌then◌else◌, ◌&&◌, ◌||◌, Option, Some, None, List, [], ◌∷◌, ◌++◌, length, refl, sym, ap, ap₂, ◌∙◌}
+use Rattle.std.proofs.Common.{◌≡◌, ℕ, ◌+◌, Bool, true, false, if◌then◌else◌, ◌&&◌, ◌||◌, Option, Some, None, List, [], ◌∷◌, ◌++◌, length, refl, sym, ap, ap₂, ◌∙◌}
 use Rattle.std.specs.Prelude.{option_map, replicate}
 use Rattle.cic_terms.specs.Tree.{Shape, over, Tree, rel, node, Children, no_child, child, lam, app, ind, case, fix}
 use Rattle.cic_terms.specs.declared.name.GlobalId.{GlobalId}
-use Rattle.cic_rules.specs.Inductive.{Each}
 use Rattle.cic_rules.specs.Environment.{Environment, whole_block_in, element, or_else, meaning}
-use Rattle.cic_rules.specs.Telescopes.{head_of, Function}
+use Rattle.cic_rules.specs.Telescopes.{Function}
 use Rattle.cic_rules.specs.Guard.{Mark, plain, function, Marks, under_mark, under_marks, under_plain, marks_in_block, recursive_marks, body_marks, recursive_places}
-use Rattle.cic_counted.specs.GuardTest.{branch_marks, is_recursive_variable, is_smaller, are_smaller, Walk, passed, failed, then_walk, is_smaller_argument, is_good_call, occurrence, body_flags, walk, walk_children, walk_branches, walk_chosen, failed_call, walk_fault, head_of_domain, function_fault, Unguarded, functions_fault, guard_fault}
-use Rattle.cic_laws.proofs.EnvironmentsTerms.{Within, each_element, TreeIn, PartsIn, TreesIn, FunctionIn, FunctionsIn, head_in}
+use Rattle.cic_counted.specs.GuardTest.{branch_marks, is_recursive_variable, is_smaller, are_smaller, Walk, passed, failed, then_walk, is_smaller_argument, is_good_call, occurrence, body_flags, walk, walk_children, walk_branches, walk_chosen, failed_call, walk_fault, head_of_domain, Unguarded, functions_fault, guard_fault}
+use Rattle.cic_laws.proofs.EnvironmentsTerms.{Within, each_element, TreeIn, PartsIn, TreesIn, FunctionsIn, head_in}
 
 module _ (S : GlobalId → Type 0) (r r' : GlobalId → ℕ → Option (List Mark)) (e : (id : GlobalId) → S id → (place : ℕ) → r id place ≡ r' id place) (places : List ℕ) where
   variable_same : (marks : Marks) (t : Tree) → is_recursive_variable r places marks t ≡ is_recursive_variable r' places marks t
@@ -77,8 +76,8 @@ module _ (S : GlobalId → Type 0) (r r' : GlobalId → ℕ → Option (List Mar
         (walk_same (under_plain (n + 1) marks) [] p call tt h.1.0)
         (λ c. then_same (walk r places marks [] v c) (walk r' places marks [] v c) _ _ (walk_same marks [] v c tt h.1.1.0)
         (λ c'.
-            ap₂ (λ x y. walk_branches r' places marks (x || y) id 0 branches c') (sym (variable_same marks v)) (sym (smaller_same marks v h.1.1.0))
-            ∙ branches_same marks (is_recursive_variable r places marks v || is_smaller r places marks v) id 0 branches c' h.0 h.1.1.1))
+        ap₂ (λ x y. walk_branches r' places marks (x || y) id 0 branches c') (sym (variable_same marks v)) (sym (smaller_same marks v h.1.1.0))
+        ∙ branches_same marks (is_recursive_variable r places marks v || is_smaller r places marks v) id 0 branches c' h.0 h.1.1.1))
     walk_same marks us (fix which shapes parts) call k h =
         ap₂ (λ (fs gs : List Bool). then_walk r' places (walk_chosen r' places marks fs parts call) (walk_chosen r' places marks gs parts))
         (sym (flags_same true false shapes)) (sym (flags_same false true shapes))

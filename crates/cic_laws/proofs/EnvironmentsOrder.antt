@@ -1,5 +1,5 @@
--- What an id stands for in an environment is left as it is by taking opaque bodies away, and, where no id
--- is declared twice, by another order of the items.
+-- What an id stands for in an environment is left as it is by taking opaque bodies away, by items that do
+-- not declare it, and, where no id is declared twice, by another order of the items.
 use Rattle.std.proofs.Common.{◌≡◌, ◌⊎◌, inl, inr, ℕ, zero, suc, ◌+◌, Bool, true, false, if◌then◌else◌, Option, Some, None, List, [], ◌∷◌, ◌++◌, refl, sym, ap, ap₂, ◌∙◌, subst, arith, Contains}
 use Rattle.std.specs.Prelude.{IsPermutation}
 use Rattle.std.proofs.lemmas.List.Elements.{Contains-append_left, Contains-append_right}
@@ -12,6 +12,15 @@ use Rattle.cic_rules.specs.Sameness.{same_list, same_id}
 use Rattle.cic_rules.specs.Environment.{Environment, axiom_of, transparent, opaque, inductive, Block, TypeDeclaration, ConstructorDeclaration, Item, declared, bare, constructor_ids, type_ids, bare_ids, item_ids, environment_ids, Meaning, whole_type, bare_type, constructor, or_else, where_same, constructor_meaning, type_meaning, bare_meaning, item_meaning, meaning}
 use Rattle.cic_rules.specs.Formed.{Distinct}
 use Rattle.cic_laws.specs.Environments.{without_opaque_body, without_opaque_bodies}
+
+or_else_associates : {A : Type 0} (a b c : Option A) → or_else (or_else a b) c ≡ or_else a (or_else b c)
+or_else_associates None b c = refl
+or_else_associates (Some a) b c = refl
+
+pub meaning_joined : (E F : Environment) (id : GlobalId) → meaning (E ++ F) id ≡ or_else (meaning E id) (meaning F id)
+meaning_joined [] F id = refl
+meaning_joined (item ∷ E) F id =
+    ap (or_else (item_meaning item id)) (meaning_joined E F id) ∙ sym (or_else_associates (item_meaning item id) (meaning E id) (meaning F id))
 
 item_without_opaque_body : (item : Item) (id : GlobalId) → item_meaning (without_opaque_body item) id ≡ item_meaning item id
 item_without_opaque_body (declared (axiom_of other type)) id = refl
@@ -169,3 +178,14 @@ meaning_in_any_order E E' p d id = by_answer (meaning E' id) refl (meaning E id)
     by_answer None q (Some m) r =
         let f = found_in E id m r in
         absurd (some_found E' f.0 id m (Contains-permutation E E' f.0 p f.1) f.2 q)
+
+-- Items that do not declare an id leave what it stands for.
+undeclared : (E : Environment) (id : GlobalId) → ¬ Contains (environment_ids E) id → (o : Option Meaning) → meaning E id ≡ o → meaning E id ≡ None
+undeclared E id n None q = q
+undeclared E id n (Some m) q = let f = found_in E id m q in absurd (n (item_within E f.0 id f.1 (item_declares f.0 id m f.2)))
+
+pub meaning_with_more : (before more after : Environment) (id : GlobalId) → ¬ Contains (environment_ids more) id → meaning (before ++ after) id ≡ meaning (before ++ (more ++ after)) id
+meaning_with_more before more after id n =
+    let nothing : meaning (more ++ after) id ≡ meaning after id =
+    meaning_joined more after id ∙ ap (λ o. or_else o (meaning after id)) (undeclared more id n (meaning more id) refl) in
+    meaning_joined before after id ∙ ap (or_else (meaning before id)) (sym nothing) ∙ sym (meaning_joined before (more ++ after) id)

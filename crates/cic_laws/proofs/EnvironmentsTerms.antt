@@ -1,14 +1,14 @@
 -- Terms, contexts and blocks whose ids are all in a set. Lifting, substitution and what is taken off a
 -- term, or put together from terms, bring no other id.
-use Rattle.std.proofs.Common.{ℕ, zero, suc, ◌+◌, ◌-◌, Bool, true, false, if◌then◌else◌, Option, Some, None, List, [], ◌∷◌, ◌++◌, length, map, take, drop}
+use Rattle.std.proofs.Common.{ℕ, zero, suc, ◌+◌, ◌-◌, Bool, true, false, if◌then◌else◌, Option, Some, None, List, [], ◌∷◌, ◌++◌, length, take, drop}
 use Rattle.std.specs.Prelude.{ltb, eqb}
-use Rattle.cic_terms.specs.Tree.{Shape, Former, SortF, ProdF, LamF, AppF, LetF, ConstF, IndF, CtorF, CaseF, FixF, many, over, Tree, rel, node, Children, no_child, child, prod, lam, app, fix, join}
+use Rattle.cic_terms.specs.Tree.{Shape, Former, ConstF, IndF, CtorF, CaseF, many, over, Tree, rel, node, Children, no_child, child, prod, app, join}
 use Rattle.cic_terms.specs.Lift.{lift_tree, lift_children, subst_rel, subst_tree, subst_children}
 use Rattle.cic_terms.specs.declared.name.GlobalId.{GlobalId}
 use Rattle.cic_rules.specs.Sameness.{same_children}
 use Rattle.cic_rules.specs.Inductive.{Each}
-use Rattle.cic_rules.specs.Environment.{Context, Entry, assumed, unknown, element, entry_type, entry_body, type_at, body_at, under_unknown}
-use Rattle.cic_rules.specs.Telescopes.{apply, head_of, arguments_of, products, abstractions, domains_of, conclusion_of, extend, substitute_all, variables, lift_all, lift_domains, codomain_at, instantiate, BranchParts, branch_at, Function, domain_parts, function_parts, function_shapes, fixpoint, trees_of, tree_at, split_functions, functions_if_parts, functions_of, function_type, function_types, full_body, each_fixpoint, unfolded}
+use Rattle.cic_rules.specs.Environment.{Context, Entry, assumed, element, entry_type, entry_body, type_at, body_at, under_unknown}
+use Rattle.cic_rules.specs.Telescopes.{apply, head_of, arguments_of, products, abstractions, domains_of, conclusion_of, extend, substitute_all, variables, lift_all, lift_domains, codomain_at, instantiate, branch_at, Function, domain_parts, function_parts, trees_of, tree_at, split_functions, functions_of, function_type, function_types, full_body, each_fixpoint, unfolded}
 
 abbrev pub Within : {A : Type 0} → (A → Type 0) → Option A → Type 0
 Within P None = Unit {0}

@@ -10,13 +10,13 @@ use Rattle.cic_terms.specs.declared.level.Level.TheVariants.{Set}
 use Rattle.cic_rules.specs.Inductive.{Each}
 use Rattle.cic_rules.specs.Sameness.{same_tree}
 use Rattle.cic_rules.specs.Numbering.{plain_level}
-use Rattle.cic_rules.specs.Environment.{Environment, Context, Meaning, meaning, TypeDeclaration, ConstructorDeclaration, constant_type, constant_type_in, arity_of, arity_in, whole_block, whole_block_in, constructor_of, constructor_in, type_at, element, assumed, defined}
+use Rattle.cic_rules.specs.Environment.{Environment, Context, meaning, TypeDeclaration, ConstructorDeclaration, constant_type, constant_type_in, arity_of, arity_in, whole_block, whole_block_in, constructor_of, constructor_in, type_at, element, assumed, defined}
 use Rattle.cic_rules.specs.Telescopes.{apply, head_of, arguments_of, domains_of, conclusion_of, extend, substitute_all, variables, lift_all, instantiate, Function, functions_of, function_types, function_type}
 use Rattle.cic_counted.specs.BlockTests.{is_shaped, index_count}
 use Rattle.cic_counted.specs.GuardTest.{guard_fault}
 use Rattle.cic_counted.specs.Outcome.{Counted, refused, global, local, unbound, not_function, not_inductive, bad_elimination, bad_branch_count, universe_form, unguarded, deep, give, or_refuse, require, refuse_for, tick}
-use Rattle.cic_counted.specs.Evaluation.{whnf_at, cumul_at}
-use Rattle.cic_counted.specs.Inference.{Calls, Product, as_sort, as_product, expose, next_level, type_of_sort, product_sort, are_branches, is_prop, ends_in_prop, branch_goal, all_propositions, eliminates_constructors, eliminates, check_branches, infer_match, infer_case, sort_each, function_context, check_bodies, infer_fix, infer_step, check_step, sort_step, calls_at, calls_from}
+use Rattle.cic_counted.specs.Evaluation.{whnf_at}
+use Rattle.cic_counted.specs.Inference.{Calls, Product, as_sort, as_product, expose, next_level, type_of_sort, product_sort, are_branches, is_prop, ends_in_prop, branch_goal, all_propositions, eliminates_constructors, eliminates, check_branches, infer_match, infer_case, sort_each, function_context, check_bodies, infer_fix, infer_step, calls_at, calls_from}
 use Rattle.cic_laws.proofs.EnvironmentsTerms.{Within, each_joined, each_taken, each_dropped, each_element, TreeIn, PartsIn, TreesIn, ContextIn, FunctionIn, FunctionsIn, lift_in, subst_in, apply_in, arguments_in, domains_in, conclusion_in, extend_in, type_at_in, substitute_all_in, variables_in, lift_all_in, instantiate_in, functions_in, function_type_in, function_types_in}
 use Rattle.cic_laws.proofs.EnvironmentsGuard.{guard_same}
 use Rattle.cic_laws.proofs.EnvironmentsCalls.{Any, Alike, alike_itself, alike_give, alike_stop, alike_bind, alike_then, alike_if, alike_to, alike_or_refuse, alike_lookup, alike_fitting, alike_fitting_all, ConstructorIn, TypeIn, MeaningIn, constant_in, inductive_in, block_in, constructor_within}
@@ -53,8 +53,8 @@ module _ (S : GlobalId → Type 0) where
       let m = length (domains_of type) in
       let inside : TreeIn S type = instantiate_in S parameters k.type hs hk.1 in
       let made : TreeIn S (apply (ctor k.id) (lift_all m parameters ++ variables m)) =
-          apply_in S (ctor k.id) (lift_all m parameters ++ variables m) (hk.0, tt)
-          (each_joined (TreeIn S) (lift_all m parameters) (variables m) (lift_all_in S m parameters hs) (variables_in S m)) in
+      apply_in S (ctor k.id) (lift_all m parameters ++ variables m) (hk.0, tt)
+      (each_joined (TreeIn S) (lift_all m parameters) (variables m) (lift_all_in S m parameters hs) (variables_in S m)) in
       substitute_all_in S
       (drop (length parameters) (arguments_of (conclusion_of type)) ++ apply (ctor k.id) (lift_all m parameters ++ variables m) ∷ [])
       (lift_tree (a + 1) m p)

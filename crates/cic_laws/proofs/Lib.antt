@@ -3,7 +3,6 @@ pub mod BudgetsEvaluation
 pub mod BudgetsTyping
 pub mod BudgetsChecking
 pub mod BudgetsSteps
-pub mod EnvironmentsAgree
 pub mod EnvironmentsOrder
 pub mod EnvironmentsTerms
 pub mod EnvironmentsGuard
