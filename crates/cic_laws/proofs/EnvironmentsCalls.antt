@@ -10,6 +10,7 @@ use Rattle.cic_counted.specs.Outcome.{Budget, Outcome, done, stops, Stopped, Cau
 use Rattle.cic_counted.proofs.Taken.{done_value}
 use Rattle.cic_laws.proofs.EnvironmentsTerms.{Within, each_element, TreeIn, TreesIn}
 
+-- The property that every value has.
 abbrev pub Any : {A : Type 0} → A → Type 0
 Any a = Unit {0}
 
@@ -70,6 +71,7 @@ module _ (S : GlobalId → Type 0) where
   alike_fitting_all (t ∷ ts) h =
       alike_bind (alike_fitting t h.0) (λ u k. alike_bind (alike_fitting_all ts h.1) (λ us ks. alike_give (TreesIn S) (u ∷ us) (k, ks)))
 
+  -- All ids of a constructor, a type of a block, and what an id stands for are in the set.
   abbrev pub ConstructorIn : ConstructorDeclaration → Type 0
   ConstructorIn c = S c.id × TreeIn S c.type
 

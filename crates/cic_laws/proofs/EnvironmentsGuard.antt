@@ -33,6 +33,7 @@ module _ (S : GlobalId → Type 0) (r r' : GlobalId → ℕ → Option (List Mar
         ∙ smaller_same (under_marks (branch_marks known (over b 0) (r' id place)) marks) t h.0)
         (branches_smaller_same marks known id (place + 1) ks s h.1)
 
+  -- A walk by the marks of one environment as a walk by those of the other.
   abbrev carry : Walk r places → Walk r' places
   carry (passed call) = passed call
   carry (failed call) = failed call
@@ -49,6 +50,7 @@ module _ (S : GlobalId → Type 0) (r r' : GlobalId → ℕ → Option (List Mar
   call_same marks None us h = refl
   call_same marks (Some k) us h = argument_same marks (element us k) (each_element (TreeIn S) us k h)
 
+  -- The walk after an occurrence, which is good or not.
   abbrev after : Bool → ℕ → Walk r' places
   after c call = if c then passed call else failed call
 

@@ -7,18 +7,14 @@ use Rattle.cic_terms.specs.Tree.{Former, ConstF, IndF, CtorF, CaseF, Tree, rel, 
 use Rattle.cic_terms.specs.Mentions.{Names, Mentions, ChildrenMention}
 use Rattle.cic_terms.specs.declared.name.GlobalId.{GlobalId}
 use Rattle.cic_rules.specs.Inductive.{Each}
-use Rattle.cic_rules.specs.Environment.{Environment, Declaration, axiom_of, transparent, opaque, inductive, TypeDeclaration, ConstructorDeclaration, Meaning, constant, whole_type, bare_type, constructor, meaning, constructor_ids, type_ids}
-use Rattle.cic_rules.specs.Formed.{block_terms, declaration_terms}
+use Rattle.cic_rules.specs.Environment.{Environment, Declaration, axiom_of, transparent, opaque, inductive, TypeDeclaration, ConstructorDeclaration, Meaning, constant, whole_type, bare_type, constructor, meaning, constructor_ids, type_ids, environment_ids}
+use Rattle.cic_rules.specs.Formed.{block_terms, declaration_terms, Distinct}
 use Rattle.cic_counted.specs.Checking.{check_declaration}
-use Rattle.cic_laws.specs.Environments.{meaning_terms, meaning_ids, Reached, in_its_terms, in_terms, beside}
+use Rattle.cic_laws.specs.Environments.{meaning_terms, meaning_ids, Reached, in_its_terms, in_terms, beside, without_opaque_bodies}
 use Rattle.cic_laws.proofs.EnvironmentsTerms.{Within, FormerIn, TreeIn, PartsIn}
 use Rattle.cic_laws.proofs.EnvironmentsCalls.{ConstructorIn, TypeIn, MeaningIn}
-use Rattle.cic_laws.proofs.EnvironmentsOrder.{contains_first, contains_rest}
+use Rattle.cic_laws.proofs.EnvironmentsOrder.{contains_first, contains_rest, meaning_without_opaque_bodies, meaning_in_any_order, meaning_with_more}
 use Rattle.std.specs.Prelude.{IsPermutation}
-use Rattle.cic_rules.specs.Environment.{environment_ids}
-use Rattle.cic_rules.specs.Formed.{Distinct}
-use Rattle.cic_laws.specs.Environments.{without_opaque_bodies}
-use Rattle.cic_laws.proofs.EnvironmentsOrder.{meaning_without_opaque_bodies, meaning_in_any_order, meaning_with_more}
 use Rattle.cic_laws.proofs.EnvironmentsChecking.{TypeTermsIn, DeclarationIn, check_over_agreeing}
 
 -- A term names ids of a set alone where it mentions no other.
@@ -101,6 +97,7 @@ module _ (S : GlobalId → Type 0) where
   meaning_from (bare_type block index) s h = arities_from block.types h
   meaning_from (constructor block index place) s h = types_from block.types s h
 
+-- With each id that is reached, the ids of what it stands for are.
 reached_closed : (E : Environment) (d : Declaration) (id : GlobalId) → Reached E d id → (o : Option Meaning) → meaning E id ≡ o → Within (MeaningIn (Reached E d)) o
 reached_closed E d id r None q = tt
 reached_closed E d id r (Some m) q =

@@ -10,6 +10,7 @@ use Rattle.cic_rules.specs.Inductive.{Each}
 use Rattle.cic_rules.specs.Environment.{Context, Entry, assumed, element, entry_type, entry_body, type_at, body_at, under_unknown}
 use Rattle.cic_rules.specs.Telescopes.{apply, head_of, arguments_of, products, abstractions, domains_of, conclusion_of, extend, substitute_all, variables, lift_all, lift_domains, codomain_at, instantiate, branch_at, Function, domain_parts, function_parts, trees_of, tree_at, split_functions, functions_of, function_type, function_types, full_body, each_fixpoint, unfolded}
 
+-- What an option has, if anything, has a property.
 abbrev pub Within : {A : Type 0} → (A → Type 0) → Option A → Type 0
 Within P None = Unit {0}
 Within P (Some a) = P a
@@ -35,6 +36,7 @@ module _ {A : Type 0} (P : A → Type 0) where
   each_element (x ∷ xs) (suc i) h = each_element xs i h.1
 
 module _ (S : GlobalId → Type 0) where
+  -- All ids of a former, a term, terms, an entry, a context and functions are in the set.
   abbrev pub FormerIn : Former → Type 0
   FormerIn (ConstF id) = S id
   FormerIn (IndF id) = S id
