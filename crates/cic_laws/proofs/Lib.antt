@@ -31,3 +31,11 @@ pub mod EvaluationSorts
 pub mod EvaluationConversion
 pub mod ProductParts
 pub mod Scopes
+pub mod EnvironmentsOrder
+pub mod EnvironmentsTerms
+pub mod EnvironmentsGuard
+pub mod EnvironmentsCalls
+pub mod EnvironmentsEvaluation
+pub mod EnvironmentsTyping
+pub mod EnvironmentsChecking
+pub mod EnvironmentsReached

@@ -5,3 +5,5 @@ pub mod Reaching
 pub mod Substitution
 pub mod Growth
 pub mod TypedContexts
+-- What the laws on environments speak of. The other laws speak of the definitions of the crates below.
+pub mod Environments

@@ -33,3 +33,4 @@ pub use substitution::{
     lift_after_lift, lift_and_subst, lift_renames, renaming_and_substitution, subst_after_lift,
     subst_after_subst, subst_substitutes,
 };
+pub mod environments;
