@@ -1,0 +1,4 @@
+-- Lemmas on numberings, chains and cycles.
+pub mod Cycles
+pub mod Sameness
+pub mod Kept

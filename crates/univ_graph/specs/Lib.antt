@@ -1,0 +1,2 @@
+-- The words of the contracts on universe constraints, numberings and cycles.
+pub mod Numbers
