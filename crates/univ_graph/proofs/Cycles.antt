@@ -54,10 +54,10 @@ meets_all N (d ∷ cs) each =
 
 pub consistent_part : (part whole : List Constraint) → IsWithin part whole → Consistent whole → Consistent part
 consistent_part part whole within k = record {
-    numbering = k.numbering;
-    is_numbering = k.is_numbering;
-    meets = meets_all k.numbering part (λ c h. let w = within c h in meets_each k.numbering whole c w.0 k.meets w.1 w.2);
-  }
+  numbering = k.numbering;
+  is_numbering = k.is_numbering;
+  meets = meets_all k.numbering part (λ c h. let w = within c h in meets_each k.numbering whole c w.0 k.meets w.1 w.2);
+}
 
 pub cycle_not_consistent : (cycle constraints : List Constraint) → IsCycle cycle → IsWithin cycle constraints → Consistent constraints → ⊥
 cycle_not_consistent cycle constraints cyc within k =
@@ -66,5 +66,5 @@ cycle_not_consistent cycle constraints cyc within k =
     let c : Constraint = s.0 in
     let at = s.1 in
     let up : level_number j.numbering cyc.start < level_number j.numbering cyc.start =
-        along_strict_chain j.numbering cyc.start cycle cyc.start c at.0 cyc.chain j.meets at.1 at.2 s.2 in
+    along_strict_chain j.numbering cyc.start cycle cyc.start c at.0 cyc.chain j.meets at.1 at.2 s.2 in
     omega arith

@@ -2,3 +2,5 @@
 pub mod Cycles
 pub mod Sameness
 pub mod Kept
+pub mod KeyOrder
+pub mod WalkLaws

@@ -1,12 +1,11 @@
 -- The test of equal level names, and the number of a level at the head of a numbering and behind it.
-use Rattle.std.proofs.Common.{◌≡◌, ◌≢◌, ℕ, inl, inr, ◌⊎◌, Bool, true, false, IsTrue, nat_eq, List, [], ◌∷◌, refl, ap, arith, subst}
+use Rattle.std.proofs.Common.{◌≡◌, ℕ, inl, inr, ◌⊎◌, Bool, true, false, nat_eq, List, [], ◌∷◌, refl, arith, subst}
 use Rattle.std.specs.Prelude.{◌&&◌}
 use Rattle.std.proofs.lemmas.Grind.{common_steps}
 use Rattle.cic_terms.specs.declared.level.Part.{Part}
 use Rattle.cic_terms.specs.declared.level.Part.TheVariants.{Declared, Visible, Proof}
 use Rattle.cic_terms.specs.declared.level.LevelName.{LevelName}
-use Rattle.cic_terms.specs.declared.level.Level.{Level}
-use Rattle.cic_terms.specs.declared.level.Level.TheVariants.{Set, Named}
+use Rattle.cic_terms.specs.declared.level.Level.TheVariants.{Named}
 use Rattle.cic_rules.specs.Sameness.{same_list, same_part, same_level_name}
 use Rattle.cic_rules.specs.Numbering.{Numbered, Numbering, level_number}
 
@@ -75,8 +74,8 @@ pub name_self : (a : LevelName) → same_level_name a a ≡ true
 name_self a =
     and_true _ (nat_eq a.number a.number)
     (and_true _ (same_part a.part a.part)
-      (and_true (same_list nat_eq a.lib a.lib) (same_list nat_eq a.owner a.owner) (list_self a.lib) (list_self a.owner))
-      (part_self a.part))
+    (and_true (same_list nat_eq a.lib a.lib) (same_list nat_eq a.owner a.owner) (list_self a.lib) (list_self a.owner))
+    (part_self a.part))
     (number_self a.number)
 
 true_or_false : (b : Bool) → (b ≡ true) ⊎ (b ≡ false)
@@ -90,6 +89,6 @@ number_here a N l e =
 
 pub number_later : (a : Numbered) (N : Numbering) (l : LevelName) → (a.level ≡ l → ⊥) → level_number (a ∷ N) (Named l) ≡ level_number N (Named l)
 number_later a N l n = elim (true_or_false (same_level_name a.level l)) [
-      inl s ↦ absurd (n (name_same a.level l s))
-    | inr s ↦ rw s refl
-  ]
+  | inl s ↦ absurd (n (name_same a.level l s))
+  | inr s ↦ rw s refl
+]

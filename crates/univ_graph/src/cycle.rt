@@ -1,5 +1,7 @@
 //! Constraints with the reason why they are there, and cycles of them.
-use cic_terms::{Constraint, LibName};
+ghost use Rattle.std.specs.Prelude.{◌≡◌, IfOk};
+
+use cic_terms::{Constraint, LibName, NoMemory};
 
 /// Why a constraint has to hold.
 #[derive(Debug, Drop)]
@@ -19,8 +21,33 @@ pub struct Tagged {
     pub tag: Tag,
 }
 
-/// Tagged constraints in the order of a cycle.
+/// Tagged constraints in the order of a cycle: each begins where the one before ends, the first where the last ends, and it begins at its least level.
 #[derive(Debug, Drop)]
 pub struct Cycle {
     pub steps: Vec<Tagged>,
+}
+
+impl Tag {
+    /// The same tag, which shares its name.
+    pub fn copy(&self) -> Result<Tag, NoMemory>
+        ensures { IfOk result (λ t. t ≡ self.now) }
+    {
+        match self {
+            Tag::Levels => Ok(Tag::Levels),
+            Tag::Visible(lib) => Ok(Tag::Visible(lib.copy()?)),
+            Tag::Proofs(lib) => Ok(Tag::Proofs(lib.copy()?)),
+        }
+    }
+}
+
+impl Tagged {
+    /// The same constraint with the same tag, which share their names.
+    pub fn copy(&self) -> Result<Tagged, NoMemory>
+        ensures { IfOk result (λ t. t ≡ self.now) }
+    {
+        Ok(Tagged {
+            constraint: self.constraint.copy()?,
+            tag: self.tag.copy()?,
+        })
+    }
 }

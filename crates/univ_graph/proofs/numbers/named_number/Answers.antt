@@ -1,5 +1,5 @@
 -- The level is the one at hand, or the number is that behind it.
-use Rattle.std.proofs.Common.{◌≡◌, sym, ◌∙◌, false, true, true≢false}
+use Rattle.std.proofs.Common.{sym, ◌∙◌}
 use Rattle.univ_graph.proofs.Kept.{kept_here, kept_later}
 use Rattle.univ_graph.proofs.numbers.named_number.Goals as goal
 
