@@ -2,6 +2,7 @@
 ghost use Rattle.std.specs.Prelude.{◌≡◌, IfOk};
 
 use cic_terms::{Constraint, LibName, NoMemory};
+use std::marker::Model;
 
 /// Why a constraint has to hold.
 #[derive(Debug, Drop)]
@@ -24,7 +25,25 @@ pub struct Tagged {
 /// Tagged constraints in the order of a cycle: each begins where the one before ends, the first where the last ends, and it begins at its least level.
 #[derive(Debug, Drop)]
 pub struct Cycle {
-    pub steps: Vec<Tagged>,
+    pub(crate) steps: Vec<Tagged>,
+}
+
+impl Model for Cycle {
+    ghost use Rattle.std.specs.Prelude.{List};
+    ghost use Rattle.univ_graph.specs.declared.cycle.Tagged.{Tagged};
+
+    ghost Value = { List Tagged };
+
+    ghost view = { λ c. c.steps.items };
+}
+
+impl Cycle {
+    /// The steps in order.
+    pub fn steps(&self) -> &[Tagged]
+        ensures { result.now ≡ self.now }
+    {
+        self.steps.as_slice()
+    }
 }
 
 impl Tag {

@@ -110,8 +110,8 @@ impl Cycle {
     pub fn of_walk(alloc: Global, start: &Level, walk: &[Tagged]) -> Result<Cycle, NoMemory>
         requires closed { IsClosedAt start.now walk.now }
         requires strict { has_strict walk.now ≡ true }
-        ensures cycle { IfOk result (λ c. IsCycle (constraints c.steps.items)) }
-        ensures part { IfOk result (λ c. IsPartOf c.steps.items walk.now) }
+        ensures cycle { IfOk result (λ c. IsCycle (constraints c)) }
+        ensures part { IfOk result (λ c. IsPartOf c walk.now) }
     {
         let steps = without_returns(alloc, start, walk)?;
         let steps = from_least(steps)?;
