@@ -11,3 +11,6 @@ pub use cycle::{Cycle, Tag, Tagged};
 pub use keys::is_below;
 pub use laws::{consistency_passes_to_parts, no_numbering_meets_a_cycle};
 pub use numbers::{LevelNumber, level_number, meets};
+
+#[cfg(test)]
+mod tests;
