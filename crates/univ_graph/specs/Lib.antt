@@ -1,0 +1,3 @@
+-- The words of the contracts on universe constraints, numberings and cycles.
+pub mod Numbers
+pub mod Walks
