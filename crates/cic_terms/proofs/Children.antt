@@ -3,7 +3,7 @@ use Rattle.std.proofs.Common.{◌≡◌, ◌≢◌, ℕ, suc, ◌+◌, ◌-◌, 
 use Rattle.std.proofs.Math.Seq.{drop-cons}
 use Rattle.std.proofs.lemmas.Grind.{common_steps}
 use Rattle.cic_terms.specs.Tree.{Tree, node, Former, Children, no_child, child, Binders, over, join}
-use Rattle.cic_terms.specs.Sizes.{Fits, ChildrenFit, depth_tree, max_rel, depth_children, max_rel_children}
+use Rattle.cic_terms.specs.Sizes.{Fits, ChildrenFit, depth_children, max_rel_children}
 use Rattle.cic_terms.specs.Lift.{lift_tree, lift_children, subst_tree, subst_children}
 
 pub drop_at : {A : Type 0} (xs : List A) (i : ℕ) (x : A) → i < length xs → x ≡ get_or xs i x → drop i xs ≡ x ∷ drop (i + 1) xs

@@ -8,3 +8,4 @@ pub mod Mentioned
 pub mod Sameness
 pub mod Blocks
 pub mod Shaped
+pub mod Gathered

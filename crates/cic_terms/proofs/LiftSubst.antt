@@ -1,27 +1,27 @@
 -- Lifting goes through a substitution.
-use Rattle.std.proofs.Common.{◌≡◌, ℕ, suc, ◌+◌, ◌-◌, ◌≤◌, ◌<◌, ◌⊎◌, inl, inr, ltb, eqb, refl, sym, ap, ◌∙◌, arith}
+use Rattle.std.proofs.Common.{◌≡◌, ℕ, ◌+◌, ◌-◌, ◌≤◌, ◌<◌, ◌⊎◌, inl, inr, refl, sym, ap, ◌∙◌, arith}
 use Rattle.std.proofs.lemmas.Bool.Decides.{nat_tests}
 use Rattle.std.proofs.lemmas.Bool.{cases_lt}
 use Rattle.cic_terms.specs.Tree.{Tree, rel, node, Children, no_child, child, over}
 use Rattle.cic_terms.specs.Lift.{lift_tree, lift_children, subst_rel, subst_tree, subst_children}
 use Rattle.cic_terms.proofs.Laws.{lift_lift, over_adds}
 
-subst_below : (at : ℕ) (w : Tree) (x : ℕ) → x < at → subst_rel at w x ≡ rel x
+pub subst_below : (at : ℕ) (w : Tree) (x : ℕ) → x < at → subst_rel at w x ≡ rel x
 subst_below at w x h = grind (arith, nat_tests)
 
-subst_here : (at : ℕ) (w : Tree) (x : ℕ) → x ≡ at → subst_rel at w x ≡ lift_tree 0 at w
+pub subst_here : (at : ℕ) (w : Tree) (x : ℕ) → x ≡ at → subst_rel at w x ≡ lift_tree 0 at w
 subst_here at w x h = grind (arith, nat_tests)
 
-subst_above : (at : ℕ) (w : Tree) (x : ℕ) → at < x → subst_rel at w x ≡ rel (x - 1)
+pub subst_above : (at : ℕ) (w : Tree) (x : ℕ) → at < x → subst_rel at w x ≡ rel (x - 1)
 subst_above at w x h = grind (arith, nat_tests)
 
-lift_below : (i n x : ℕ) → x < i → lift_tree i n (rel x) ≡ rel x
+pub lift_below : (i n x : ℕ) → x < i → lift_tree i n (rel x) ≡ rel x
 lift_below i n x h = grind (arith, nat_tests)
 
-lift_above : (i n x : ℕ) → i ≤ x → lift_tree i n (rel x) ≡ rel (x + n)
+pub lift_above : (i n x : ℕ) → i ≤ x → lift_tree i n (rel x) ≡ rel (x + n)
 lift_above i n x h = grind (arith, nat_tests)
 
-lift_subst_rel : (at k n i j : ℕ) (w : Tree) (x : ℕ) → i ≡ at + k → j ≡ i + 1 →
+pub lift_subst_rel : (at k n i j : ℕ) (w : Tree) (x : ℕ) → i ≡ at + k → j ≡ i + 1 →
     lift_tree i n (subst_rel at w x) ≡ subst_tree at (lift_tree k n w) (lift_tree j n (rel x))
 lift_subst_rel at k n i j w x e f = go (cases_lt x at) (cases_lt at x) (cases_lt x j)
   where

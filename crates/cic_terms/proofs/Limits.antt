@@ -1,10 +1,8 @@
 -- A Rel at or above a place that is past the limit passes it wherever it is lifted.
-use Rattle.std.proofs.Common.{◌≡◌, ℕ, suc, ◌+◌, ◌-◌, ◌^◌, ◌≤◌, ◌<◌, ◌⊎◌, inl, inr, subst, Option, Result, Ok, Err, min, max, ltb, refl, sym, ap, ◌∙◌, arith, add_assoc}
-use Rattle.std.proofs.lemmas.Grind.{common_steps}
+use Rattle.std.proofs.Common.{◌≡◌, ℕ, ◌+◌, ◌-◌, ◌^◌, ◌≤◌, ◌<◌, ◌⊎◌, inl, inr, subst, Option, Result, Ok, Err, min, refl, sym, ap, ◌∙◌, arith}
 use Rattle.std.proofs.lemmas.Bool.Decides.{nat_tests}
 use Rattle.std.proofs.lemmas.Bool.{cases_lt}
 use Rattle.cic_terms.specs.Tree.{Tree, rel, node, Children, no_child, child, over}
-use Rattle.cic_terms.specs.Denotes.{tree}
 use Rattle.cic_terms.specs.Answer.{Changes}
 use Rattle.std.specs.declared.rc.Rc.{Rc}
 use Rattle.std.specs.declared.alloc.Global.{Global}

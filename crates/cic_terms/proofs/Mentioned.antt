@@ -1,7 +1,7 @@
 -- An id stands in joined parts where it stands in one of the two.
-use Rattle.std.proofs.Common.{◌≡◌, ◌↔◌, ◌⊎◌, inl, inr, ℕ, ◌+◌, List, [], ◌∷◌, length, ap, sym, ◌∙◌, subst}
-use Rattle.cic_terms.specs.Tree.{Tree, Children, no_child, child, many, join}
-use Rattle.cic_terms.specs.Mentions.{Mentions, ChildrenMention}
+use Rattle.std.proofs.Common.{◌≡◌, ◌↔◌, ◌⊎◌, inl, inr, ℕ, ◌+◌, List, [], ◌∷◌, length, ap, sym, subst}
+use Rattle.cic_terms.specs.Tree.{Children, no_child, child, many, join}
+use Rattle.cic_terms.specs.Mentions.{ChildrenMention}
 use Rattle.cic_terms.specs.Answer.{PartsMention}
 use Rattle.cic_terms.specs.Denotes.{tree, bodies, body_list, body_parts, terms, domain_count}
 use Rattle.cic_terms.specs.declared.name.GlobalId.{GlobalId}

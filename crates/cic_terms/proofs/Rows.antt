@@ -1,11 +1,10 @@
 -- The parts of a `Vec` of terms are those of the list of its items.
-use Rattle.std.proofs.Common.{◌≡◌, ◌≢◌, ◌↔◌, IsTrue, Bool, false, true≢false, ℕ, suc, ◌+◌, List, [], ◌∷◌, ◌++◌, length, refl, sym, ap, ◌∙◌, arith, subst}
-use Rattle.std.proofs.lemmas.Grind.{common_steps}
+use Rattle.std.proofs.Common.{◌≡◌, ℕ, suc, ◌+◌, List, [], ◌∷◌, ◌++◌, length, refl, sym, ap, ◌∙◌, arith}
 use Rattle.cic_terms.specs.Tree.{Tree, Children, no_child, child, many, join, Shape}
 use Rattle.cic_terms.specs.Lift.{lift_tree, lift_children, subst_tree, subst_children}
 use Rattle.cic_terms.specs.Sizes.{Fits, ChildrenFit}
-use Rattle.cic_terms.specs.Denotes.{tree, branches, bodies, shapes, branch_row, term_row, body_row, shape_row, count_terms, count_bodies, terms, branch_list, term_list, body_list, shape_list, body_parts, shape, domain_count}
-use Rattle.cic_terms.proofs.Children.{join_leaf, join_assoc, lift_join, subst_join, fits_join, join_fits, kid_fits, fits_kid, count_children, count_lift, count_subst}
+use Rattle.cic_terms.specs.Denotes.{tree, branches, bodies, shapes, branch_row, term_row, body_row, shape_row, count_terms, count_bodies, terms, branch_list, term_list, body_list, shape_list, body_parts, shape}
+use Rattle.cic_terms.proofs.Children.{join_leaf, join_assoc, lift_join, subst_join, fits_join, join_fits, count_children}
 use Rattle.cic_terms.specs.declared.term.Term.{Term}
 use Rattle.cic_terms.specs.declared.term.Branch.{Branch}
 use Rattle.cic_terms.specs.declared.term.Terms.{Terms}
@@ -134,12 +133,6 @@ count_branch_list (b ∷ bs) = ap suc (count_branch_list bs)
 
 pub terms_count : (a : Terms) (ks : Children) (n : ℕ) → terms a ≡ ks → count_children ks ≡ n → length a.items.items ≡ n
 terms_count a ks n e f = sym (count_terms_list 0 a.items.items) ∙ ap count_children e ∙ f
-
-pub terms_count_lift : (from by : ℕ) (a b : Terms) → terms a ≡ lift_children from by (terms b) → length a.items.items ≡ length b.items.items
-terms_count_lift from by a b e = terms_count a _ _ e (count_lift from by (terms b) ∙ count_terms_list 0 b.items.items)
-
-pub terms_count_subst : (at : ℕ) (w : Tree) (a b : Terms) → terms a ≡ subst_children at w (terms b) → length a.items.items ≡ length b.items.items
-terms_count_subst at w a b e = terms_count a _ _ e (count_subst at w (terms b) ∙ count_terms_list 0 b.items.items)
 
 -- the parts of a function
 abbrev pub parts : Children → ℕ → Tree → ℕ → Tree → Children

@@ -1,16 +1,14 @@
 -- Functions are the same where their shapes and their parts are.
-use Rattle.std.proofs.Common.{◌≡◌, ◌≢◌, ◌↔◌, IsTrue, false, true≢false, ℕ, suc, ◌+◌, ◌<◌, List, [], ◌∷◌, length, get_or, drop, refl, sym, ap, ◌∙◌, subst}
-use Rattle.cic_terms.specs.Tree.{Tree, Children, no_child, child, many, join, Shape}
-use Rattle.cic_terms.specs.Denotes.{tree, branches, bodies, shapes, terms, branch_list, term_list, body_list, shape_list, body_parts, shape, domain_count}
+use Rattle.std.proofs.Common.{◌≡◌, ◌≢◌, ◌↔◌, IsTrue, false, true≢false, ℕ, suc, List, ◌∷◌, length, refl, sym, ap, ◌∙◌, subst}
+use Rattle.cic_terms.specs.Tree.{Children, no_child, child, join, Shape}
+use Rattle.cic_terms.specs.Denotes.{branches, terms, body_list, shape_list, body_parts, shape, domain_count}
 use Rattle.cic_terms.specs.Answer.{SameParts, SameBodies}
 use Rattle.cic_terms.specs.declared.term.FixBody.{FixBody}
-use Rattle.cic_terms.specs.declared.term.Term.{Term}
-use Rattle.cic_terms.specs.declared.term.Branch.{Branch}
 use Rattle.cic_terms.specs.declared.term.Branches.{Branches, out-Branches}
 use Rattle.cic_terms.specs.declared.term.Terms.{Terms}
 use Rattle.cic_terms.specs.declared.term.FixBodies.{FixBodies, out-FixBodies}
-use Rattle.cic_terms.proofs.Children.{count_children, drop_at}
-use Rattle.cic_terms.proofs.Rows.{branches-out, bodies-out, shapes-out, length_shapes, count_terms_list, count_branch_list, terms_count, parts, parts_are}
+use Rattle.cic_terms.proofs.Children.{count_children}
+use Rattle.cic_terms.proofs.Rows.{branches-out, bodies-out, shapes-out, length_shapes, count_terms_list, count_branch_list, terms_count, parts_are}
 
 pub join_same : (a a' b b' : Children) → count_children a ≡ count_children a' → join a b ≡ join a' b' → (a ≡ a') × (b ≡ b')
 unfolding count_children

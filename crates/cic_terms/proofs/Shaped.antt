@@ -1,7 +1,7 @@
 -- Lifting and substitution change no former, so what each Fix has stays.
-use Rattle.std.proofs.Common.{◌≡◌, ℕ, ◌<◌, Bool, true, false, if◌then◌else◌, ltb, eqb}
+use Rattle.std.proofs.Common.{ℕ, Bool, true, false, if◌then◌else◌, ltb, eqb}
 use Rattle.cic_terms.specs.Tree.{Tree, rel, node, Children, no_child, child, over}
-use Rattle.cic_terms.specs.Lift.{lift_tree, lift_children, subst_rel, subst_tree, subst_children}
+use Rattle.cic_terms.specs.Lift.{lift_tree, lift_children, subst_tree, subst_children}
 use Rattle.cic_terms.specs.WellShaped.{WellShaped, AreWellShaped}
 
 mutual

@@ -1,13 +1,15 @@
 -- What a call that makes a term answers.
-use Rattle.std.specs.Prelude.{ℕ, List, Option, None, Some, Result, IfOk, IfErr, OnOk, ◌≡◌, ◌⊎◌}
-use Rattle.cic_terms.specs.Tree.{Tree, Children, Shape}
+use Rattle.std.specs.Prelude.{ℕ, List, [], ◌∷◌, take, Vec, Option, None, Some, Result, IfOk, IfErr, OnOk, ◌≡◌, ◌⊎◌}
+use Rattle.cic_terms.specs.Tree.{Tree, Children}
 use Rattle.cic_terms.specs.Sizes.{Fits, ChildrenFit}
 use Rattle.cic_terms.specs.Mentions.{Mentions, ChildrenMention}
 use Rattle.cic_terms.specs.declared.name.GlobalId.{GlobalId}
-use Rattle.cic_terms.specs.Denotes.{tree, bodies, terms, shapes, body_parts, shape}
+use Rattle.cic_terms.specs.Denotes.{tree, branches, bodies, terms, shapes, body_parts, shape}
 use Rattle.std.specs.declared.rc.Rc.{Rc}
 use Rattle.std.specs.declared.alloc.Global.{Global}
 use Rattle.cic_terms.specs.declared.term.Term.{Term}
+use Rattle.cic_terms.specs.declared.term.Terms.{Terms}
+use Rattle.cic_terms.specs.declared.term.Branches.{Branches}
 use Rattle.cic_terms.specs.declared.term.FixBodies.{FixBodies}
 use Rattle.cic_terms.specs.declared.term.FixBody.{FixBody}
 use Rattle.cic_terms.specs.declared.term.TermFault.{TermFault}
@@ -42,14 +44,43 @@ pub record MakesChildren {A : Type 0} (children : A → Children) (room : ℕ) (
   pub fits : OnOk result (ChildrenFit room want)
   pub deep : IfErr result (λ fault. fault ≡ Deep → ¬ ChildrenFit room want)
 
--- the parts of the functions of a Fix, whose shapes stay
-pub record MakesBodies (room : ℕ) (old : FixBodies) (want : Children) (result : Result FixBodies TermFault) : Type 0 where
-  pub shapes : IfOk result (λ bs. shapes bs ≡ shapes old)
-  pub children : MakesChildren bodies room want result
+-- the items of a list that a change has made of the first `count`: the old ones where it changed nothing
+abbrev pub so_far : {A : Type 0} → List A → ℕ → Option (Vec A Global) → List A
+so_far old count None = take count old
+so_far old count (Some made) = made.items
 
-pub record MakesBody (all room : ℕ) (old : FixBody) (want : Children) (result : Result FixBody TermFault) : Type 0 where
-  pub shape : IfOk result (λ b. shape b ≡ shape old)
-  pub children : MakesChildren (body_parts all) room want result
+-- the list after a change
+abbrev pub terms_after : Terms → Option Terms → Children
+terms_after old None = terms old
+terms_after old (Some new) = terms new
+
+abbrev pub branches_after : Branches → Option (Rc Branches Global) → Children
+branches_after old None = branches old
+branches_after old (Some new) = branches new.value
+
+abbrev pub bodies_after : FixBodies → Option (Rc FixBodies Global) → FixBodies
+bodies_after old None = old
+bodies_after old (Some new) = new.value
+
+abbrev pub body_after : FixBody → Option FixBody → FixBody
+body_after old None = old
+body_after old (Some new) = new
+
+-- a function after a change of its parts
+pub record HasParts (old : FixBody) (new_domains : Option Terms) (new_codomain new_body : Option (Rc Term Global)) (new : FixBody) : Type 0 where
+  pub k : new.k ≡ old.k
+  pub domains : terms new.domains ≡ terms_after old.domains new_domains
+  pub codomain : tree new.codomain ≡ after (tree old.codomain) new_codomain
+  pub body : tree new.body ≡ after (tree old.body) new_body
+
+-- the parts of the functions of a Fix after a change, whose shapes stay
+pub record MakesBodies (room : ℕ) (old : FixBodies) (want : Children) (result : Result (Option (Rc FixBodies Global)) TermFault) : Type 0 where
+  pub shapes : IfOk result (λ r. shapes (bodies_after old r) ≡ shapes old)
+  pub children : MakesChildren (λ r. bodies (bodies_after old r)) room want result
+
+pub record MakesBody (all room : ℕ) (old : FixBody) (want : Children) (result : Result (Option FixBody) TermFault) : Type 0 where
+  pub shape : IfOk result (λ r. shape (body_after old r) ≡ shape old)
+  pub children : MakesChildren (λ r. body_parts all (body_after old r)) room want result
 
 -- the same function, as far as its tree goes, and the same functions
 pub record SameParts (a b : FixBody) : Type 0 where
@@ -57,6 +88,13 @@ pub record SameParts (a b : FixBody) : Type 0 where
   pub domains : terms a.domains ≡ terms b.domains
   pub codomain : tree a.codomain ≡ tree b.codomain
   pub body : tree a.body ≡ tree b.body
+
+-- the same, one by one
+abbrev pub AreSame : List FixBody → List FixBody → Type 0
+AreSame [] [] = Unit {0}
+AreSame [] (b ∷ bs) = ⊥
+AreSame (a ∷ xs) [] = ⊥
+AreSame (a ∷ xs) (b ∷ ys) = SameParts a b × AreSame xs ys
 
 pub record SameBodies (a b : FixBodies) : Type 0 where
   pub shapes : shapes a ≡ shapes b

@@ -1,5 +1,5 @@
 -- What each Fix of a term must have: the function that it names, and the recursive domain of each function.
-use Rattle.std.specs.Prelude.{ℕ, ◌<◌, List, [], ◌∷◌, length}
+use Rattle.std.specs.Prelude.{◌<◌, List, [], ◌∷◌, length}
 use Rattle.cic_terms.specs.Tree.{Tree, rel, node, Children, no_child, child, Former, FixF, Shape}
 
 -- The recursive domain of each function is one of its domains.

@@ -1,14 +1,15 @@
 //! Lifting: a number is added to the free Rels of a term.
-ghost use Rattle.std.specs.Prelude.{◌≡◌, ◌+◌, ◌-◌, ◌^◌, ◌≤◌, ◌<◌, min, ◌∷◌, []};
+ghost use Rattle.std.specs.Prelude.{IsTrue, ◌≡◌, ◌+◌, ◌-◌, ◌^◌, ◌≤◌, ◌<◌, min, ◌∷◌, []};
 ghost use Rattle.cic_terms.specs.Denotes.{tree, branches, bodies, terms, shapes, shape, body_parts, tree_sort};
-ghost use Rattle.cic_terms.specs.Answer.{Makes, MakesShared, MakesChildren, MakesBody, MakesBodies, Changes};
+ghost use Rattle.cic_terms.specs.Answer.{Makes, MakesShared, MakesChildren, MakesBody, MakesBodies, Changes, branches_after, terms_after, bodies_after};
 ghost use Rattle.cic_terms.specs.Tree.{rel};
-ghost use Rattle.cic_terms.specs.Lift.{lift_tree, lift_children};
+ghost use Rattle.cic_terms.specs.Lift.{lift_tree, lift_children, Stays};
 
+use crate::gathering::{make_body, more_bodies, more_branches, more_terms};
 use crate::sharing::{
     make_app, make_case, make_fix, make_lam, make_let, make_prod, make_rel, part, taken,
 };
-use crate::term::{Branch, Branches, FixBodies, FixBody, Term, TermFault, Terms, keep};
+use crate::term::{Branches, FixBodies, FixBody, Term, TermFault, Terms, shared};
 use std::alloc::Global;
 use std::rc::Rc;
 
@@ -51,9 +52,21 @@ fn lift_rel(
     }
 }
 
+/// Whether `t` is seen at once to stay as it is, and fits.
+#[inline(always)]
+pub(crate) fn stays(t: &Term, from: u128, room: u32) -> bool
+    ensures { IsTrue result → (1 ≤ room) × Stays from (tree t.now) }
+{
+    match t {
+        Term::Rel(n) => room != 0 && u128::from(*n) < from && *n <= MOST,
+        Term::Sort(_) | Term::Const(_) | Term::Ind(_) | Term::Ctor(_) => room != 0,
+        _ => false,
+    }
+}
+
 /// `lift_at` of `t` under `more` binders.
 #[cycle(lift)]
-#[inline(never)]
+#[inline(always)]
 fn lift_under(
     alloc: Global,
     t: &Term,
@@ -64,41 +77,11 @@ fn lift_under(
 ) -> Result<Option<Rc<Term>>, TermFault>
     ensures { Changes room (tree t.now) (lift_tree (from + more) by (tree t.now)) result }
 {
-    lift_at(alloc, t, under(from, more), by, room)
-}
-
-/// `lift_under`, for a term in a list.
-#[cycle(lift)]
-#[inline(never)]
-fn lift_term(
-    alloc: Global,
-    t: &Term,
-    from: u32,
-    more: usize,
-    by: u32,
-    room: u32,
-) -> Result<Term, TermFault>
-    ensures { Makes room (lift_tree (from + more) by (tree t.now)) result }
-{
-    let lifted = lift_under(alloc, t, from, more, by, room)?;
-    taken(t, lifted)
-}
-
-/// `lift_under`, for a part behind a pointer.
-#[cycle(lift)]
-#[inline(never)]
-fn lift_part(
-    alloc: Global,
-    t: &Rc<Term>,
-    from: u32,
-    more: usize,
-    by: u32,
-    room: u32,
-) -> Result<Rc<Term>, TermFault>
-    ensures { MakesShared room (lift_tree (from + more) by (tree t.now.value)) result }
-{
-    let lifted = lift_under(alloc, t, from, more, by, room)?;
-    part(t, lifted)
+    let at = under(from, more);
+    if stays(t, u128::from(at), room) {
+        return Ok(None);
+    }
+    lift_at(alloc, t, at, by, room)
 }
 
 /// Gives nothing where nothing changes.
@@ -147,61 +130,76 @@ pub(crate) fn lift_at(
             scrutinee,
             branches,
         } => {
-            let motive = lift_part(alloc, motive, from, *arity as usize + 1, by, room - 1)?;
-            let scrutinee = lift_part(alloc, scrutinee, from, 0, by, room - 1)?;
-            let branches = lift_all_branches(alloc, branches, from, by, room - 1)?;
-            Ok(Some(make_case(alloc, *arity, ind, motive, scrutinee, branches)?))
+            let new_motive = lift_under(alloc, motive, from, *arity as usize + 1, by, room - 1)?;
+            let new_scrutinee = lift_under(alloc, scrutinee, from, 0, by, room - 1)?;
+            let new_branches = lift_all_branches(alloc, branches, from, by, room - 1)?;
+            make_case(
+                alloc,
+                *arity,
+                ind,
+                motive,
+                scrutinee,
+                branches,
+                new_motive,
+                new_scrutinee,
+                new_branches,
+            )
         }
         Term::Fix { which, bodies } => {
-            let bodies = lift_all_bodies(alloc, bodies, from, by, room - 1)?;
-            Ok(Some(make_fix(alloc, *which, bodies)?))
+            let new_bodies = lift_all_bodies(alloc, bodies, from, by, room - 1)?;
+            make_fix(alloc, *which, bodies, new_bodies)
         }
     }
 }
 
 #[cycle(lift)]
+#[inline(never)]
 fn lift_all_branches(
     alloc: Global,
     all: &Branches,
     from: u32,
     by: u32,
     room: u32,
-) -> Result<Branches, TermFault>
-    ensures { MakesChildren branches room (lift_children from by (branches all.now)) result }
+) -> Result<Option<Rc<Branches>>, TermFault>
+    ensures { MakesChildren (branches_after all.now) room (lift_children from by (branches all.now)) result }
 {
-    let mut items = Vec::new(alloc);
-    for branch in &all.items {
-        let body = lift_term(alloc, &branch.body, from, branch.binders as usize, by, room)?;
-        keep(
-            &mut items,
-            Branch {
-                binders: branch.binders,
-                body,
-            },
-        )?;
+    let old = all.items.as_slice();
+    let mut made = None;
+    for (i, branch) in old.iter().enumerate() {
+        let new = lift_under(alloc, &branch.body, from, branch.binders as usize, by, room)?;
+        made = more_branches(alloc, old, i, branch, made, new)?;
     }
-    Ok(Branches { items })
+    match made {
+        None => Ok(None),
+        Some(items) => Ok(Some(shared(alloc, Branches { items })?)),
+    }
 }
 
 #[cycle(lift)]
+#[inline(never)]
 fn lift_all_terms(
     alloc: Global,
     all: &Terms,
     from: u32,
     by: u32,
     room: u32,
-) -> Result<Terms, TermFault>
-    ensures { MakesChildren terms room (lift_children from by (terms all.now)) result }
+) -> Result<Option<Terms>, TermFault>
+    ensures { MakesChildren (terms_after all.now) room (lift_children from by (terms all.now)) result }
 {
-    let mut items = Vec::new(alloc);
-    for (above, term) in all.items.iter().enumerate() {
-        let lifted = lift_term(alloc, term, from, above, by, room)?;
-        keep(&mut items, lifted)?;
+    let old = all.items.as_slice();
+    let mut made = None;
+    for (above, term) in old.iter().enumerate() {
+        let new = lift_under(alloc, term, from, above, by, room)?;
+        made = more_terms(alloc, old, above, term, made, new)?;
     }
-    Ok(Terms { items })
+    match made {
+        None => Ok(None),
+        Some(items) => Ok(Some(Terms { items })),
+    }
 }
 
 #[cycle(lift)]
+#[inline(never)]
 fn lift_body(
     alloc: Global,
     one: &FixBody,
@@ -209,39 +207,39 @@ fn lift_body(
     from: u32,
     by: u32,
     room: u32,
-) -> Result<FixBody, TermFault>
+) -> Result<Option<FixBody>, TermFault>
     requires { count < 2 ^ 62 }
     ensures { MakesBody count room one.now (lift_children from by (body_parts count one.now)) result }
 {
     let above = one.domains.items.len();
-    let domains = lift_all_terms(alloc, &one.domains, from, by, room)?;
-    let codomain = lift_term(alloc, &one.codomain, from, above, by, room)?;
-    let body = lift_term(alloc, &one.body, from, count + above, by, room)?;
-    Ok(FixBody {
-        k: one.k,
-        domains,
-        codomain,
-        body,
-    })
+    let new_domains = lift_all_terms(alloc, &one.domains, from, by, room)?;
+    let new_codomain = lift_under(alloc, &one.codomain, from, above, by, room)?;
+    let new_body = lift_under(alloc, &one.body, from, count + above, by, room)?;
+    make_body(alloc, one, new_domains, new_codomain, new_body)
 }
 
 #[cycle(lift)]
+#[inline(never)]
 fn lift_all_bodies(
     alloc: Global,
     all: &FixBodies,
     from: u32,
     by: u32,
     room: u32,
-) -> Result<FixBodies, TermFault>
+) -> Result<Option<Rc<FixBodies>>, TermFault>
     ensures { MakesBodies room all.now (lift_children from by (bodies all.now)) result }
 {
     let count = all.items.len();
-    let mut items = Vec::new(alloc);
-    for one in &all.items {
-        let lifted = lift_body(alloc, one, count, from, by, room)?;
-        keep(&mut items, lifted)?;
+    let old = all.items.as_slice();
+    let mut made = None;
+    for (i, one) in old.iter().enumerate() {
+        let new = lift_body(alloc, one, count, from, by, room)?;
+        made = more_bodies(alloc, old, i, one, made, new)?;
     }
-    Ok(FixBodies { items })
+    match made {
+        None => Ok(None),
+        Some(items) => Ok(Some(shared(alloc, FixBodies { items })?)),
+    }
 }
 
 /// Adds `by` to each free Rel at or above `from`. A part that stays as it is, is shared.

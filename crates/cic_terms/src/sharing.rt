@@ -1,6 +1,6 @@
 //! Terms made of parts that a change gave anew or left as they are.
 ghost use Rattle.std.specs.Prelude.{◌≡◌, IfOk, OnErr, Err};
-ghost use Rattle.cic_terms.specs.Answer.{after};
+ghost use Rattle.cic_terms.specs.Answer.{after, branches_after, bodies_after};
 ghost use Rattle.cic_terms.specs.Denotes.{tree, branches, bodies, shapes};
 ghost use Rattle.cic_terms.specs.Tree.{rel, prod, lam, let_in, app, case, fix};
 
@@ -48,7 +48,7 @@ pub(crate) fn make_rel(alloc: Global, n: u32) -> Result<Rc<Term>, TermFault>
     shared(alloc, Term::Rel(n))
 }
 
-#[inline(never)]
+#[inline(always)]
 pub(crate) fn make_prod(
     alloc: Global,
     a: &Rc<Term>,
@@ -62,10 +62,24 @@ pub(crate) fn make_prod(
     if new_a.is_none() && new_b.is_none() {
         return Ok(None);
     }
-    Ok(Some(shared(alloc, Term::Prod(part(a, new_a)?, part(b, new_b)?))?))
+    new_prod(alloc, a, b, new_a, new_b)
 }
 
 #[inline(never)]
+fn new_prod(
+    alloc: Global,
+    a: &Rc<Term>,
+    b: &Rc<Term>,
+    new_a: Option<Rc<Term>>,
+    new_b: Option<Rc<Term>>,
+) -> Result<Option<Rc<Term>>, TermFault>
+    ensures ok { IfOk result (λ r. after (prod (tree a.now.value) (tree b.now.value)) r ≡ prod (after (tree a.now.value) new_a) (after (tree b.now.value) new_b)) }
+    ensures err { OnErr result (result ≡ Err TermFault.NoMemory) }
+{
+    Ok(Some(shared(alloc, Term::Prod(part(a, new_a)?, part(b, new_b)?))?))
+}
+
+#[inline(always)]
 pub(crate) fn make_lam(
     alloc: Global,
     a: &Rc<Term>,
@@ -79,10 +93,24 @@ pub(crate) fn make_lam(
     if new_a.is_none() && new_b.is_none() {
         return Ok(None);
     }
-    Ok(Some(shared(alloc, Term::Lam(part(a, new_a)?, part(b, new_b)?))?))
+    new_lam(alloc, a, b, new_a, new_b)
 }
 
 #[inline(never)]
+fn new_lam(
+    alloc: Global,
+    a: &Rc<Term>,
+    b: &Rc<Term>,
+    new_a: Option<Rc<Term>>,
+    new_b: Option<Rc<Term>>,
+) -> Result<Option<Rc<Term>>, TermFault>
+    ensures ok { IfOk result (λ r. after (lam (tree a.now.value) (tree b.now.value)) r ≡ lam (after (tree a.now.value) new_a) (after (tree b.now.value) new_b)) }
+    ensures err { OnErr result (result ≡ Err TermFault.NoMemory) }
+{
+    Ok(Some(shared(alloc, Term::Lam(part(a, new_a)?, part(b, new_b)?))?))
+}
+
+#[inline(always)]
 pub(crate) fn make_app(
     alloc: Global,
     f: &Rc<Term>,
@@ -96,10 +124,24 @@ pub(crate) fn make_app(
     if new_f.is_none() && new_x.is_none() {
         return Ok(None);
     }
-    Ok(Some(shared(alloc, Term::App(part(f, new_f)?, part(x, new_x)?))?))
+    new_app(alloc, f, x, new_f, new_x)
 }
 
 #[inline(never)]
+fn new_app(
+    alloc: Global,
+    f: &Rc<Term>,
+    x: &Rc<Term>,
+    new_f: Option<Rc<Term>>,
+    new_x: Option<Rc<Term>>,
+) -> Result<Option<Rc<Term>>, TermFault>
+    ensures ok { IfOk result (λ r. after (app (tree f.now.value) (tree x.now.value)) r ≡ app (after (tree f.now.value) new_f) (after (tree x.now.value) new_x)) }
+    ensures err { OnErr result (result ≡ Err TermFault.NoMemory) }
+{
+    Ok(Some(shared(alloc, Term::App(part(f, new_f)?, part(x, new_x)?))?))
+}
+
+#[inline(always)]
 pub(crate) fn make_let(
     alloc: Global,
     body: &Rc<Term>,
@@ -115,6 +157,22 @@ pub(crate) fn make_let(
     if new_body.is_none() && new_ty.is_none() && new_rest.is_none() {
         return Ok(None);
     }
+    new_let(alloc, body, ty, rest, new_body, new_ty, new_rest)
+}
+
+#[inline(never)]
+fn new_let(
+    alloc: Global,
+    body: &Rc<Term>,
+    ty: &Rc<Term>,
+    rest: &Rc<Term>,
+    new_body: Option<Rc<Term>>,
+    new_ty: Option<Rc<Term>>,
+    new_rest: Option<Rc<Term>>,
+) -> Result<Option<Rc<Term>>, TermFault>
+    ensures ok { IfOk result (λ r. after (let_in (tree body.now.value) (tree ty.now.value) (tree rest.now.value)) r ≡ let_in (after (tree body.now.value) new_body) (after (tree ty.now.value) new_ty) (after (tree rest.now.value) new_rest)) }
+    ensures err { OnErr result (result ≡ Err TermFault.NoMemory) }
+{
     Ok(Some(shared(
         alloc,
         Term::Let {
@@ -125,21 +183,57 @@ pub(crate) fn make_let(
     )?))
 }
 
-#[inline(never)]
+#[inline(always)]
 pub(crate) fn make_case(
     alloc: Global,
     arity: u32,
     ind: &GlobalId,
-    motive: Rc<Term>,
-    scrutinee: Rc<Term>,
-    all: Branches,
-) -> Result<Rc<Term>, TermFault>
-    ensures ok { IfOk result (λ r. tree r.value ≡ case ind.now arity (tree motive.value) (tree scrutinee.value) (branches all)) }
+    motive: &Rc<Term>,
+    scrutinee: &Rc<Term>,
+    all: &Rc<Branches>,
+    new_motive: Option<Rc<Term>>,
+    new_scrutinee: Option<Rc<Term>>,
+    new_all: Option<Rc<Branches>>,
+) -> Result<Option<Rc<Term>>, TermFault>
+    ensures ok { IfOk result (λ r. after (case ind.now arity (tree motive.now.value) (tree scrutinee.now.value) (branches all.now.value)) r ≡ case ind.now arity (after (tree motive.now.value) new_motive) (after (tree scrutinee.now.value) new_scrutinee) (branches_after all.now.value new_all)) }
+    ensures err { OnErr result (result ≡ Err TermFault.NoMemory) }
+{
+    if new_motive.is_none() && new_scrutinee.is_none() && new_all.is_none() {
+        return Ok(None);
+    }
+    new_case(
+        alloc,
+        arity,
+        ind,
+        motive,
+        scrutinee,
+        all,
+        new_motive,
+        new_scrutinee,
+        new_all,
+    )
+}
+
+#[inline(never)]
+fn new_case(
+    alloc: Global,
+    arity: u32,
+    ind: &GlobalId,
+    motive: &Rc<Term>,
+    scrutinee: &Rc<Term>,
+    all: &Rc<Branches>,
+    new_motive: Option<Rc<Term>>,
+    new_scrutinee: Option<Rc<Term>>,
+    new_all: Option<Rc<Branches>>,
+) -> Result<Option<Rc<Term>>, TermFault>
+    ensures ok { IfOk result (λ r. after (case ind.now arity (tree motive.now.value) (tree scrutinee.now.value) (branches all.now.value)) r ≡ case ind.now arity (after (tree motive.now.value) new_motive) (after (tree scrutinee.now.value) new_scrutinee) (branches_after all.now.value new_all)) }
     ensures err { OnErr result (result ≡ Err TermFault.NoMemory) }
 {
     let ind = copy_id(ind)?;
-    let branches = shared(alloc, all)?;
-    shared(
+    let motive = part(motive, new_motive)?;
+    let scrutinee = part(scrutinee, new_scrutinee)?;
+    let branches = part_branches(all, new_all)?;
+    Ok(Some(shared(
         alloc,
         Term::Case {
             arity,
@@ -148,14 +242,36 @@ pub(crate) fn make_case(
             scrutinee,
             branches,
         },
-    )
+    )?))
 }
 
-#[inline(never)]
-pub(crate) fn make_fix(alloc: Global, which: u32, all: FixBodies) -> Result<Rc<Term>, TermFault>
-    ensures ok { IfOk result (λ r. tree r.value ≡ fix which (shapes all) (bodies all)) }
+/// The new branches, or the old ones where there are none.
+fn part_branches(old: &Rc<Branches>, new: Option<Rc<Branches>>) -> Result<Rc<Branches>, TermFault>
+    ensures ok { IfOk result (λ r. branches r.value ≡ branches_after old.now.value new) }
     ensures err { OnErr result (result ≡ Err TermFault.NoMemory) }
 {
-    let bodies = shared(alloc, all)?;
-    shared(alloc, Term::Fix { which, bodies })
+    match new {
+        Some(new) => Ok(new),
+        None => match share(old) {
+            Ok(old) => Ok(old),
+            Err(NoMemory) => Err(TermFault::NoMemory),
+        },
+    }
+}
+
+/// The `fix` with its new functions, or nothing where there are none.
+#[inline(never)]
+pub(crate) fn make_fix(
+    alloc: Global,
+    which: u32,
+    old: &FixBodies,
+    new: Option<Rc<FixBodies>>,
+) -> Result<Option<Rc<Term>>, TermFault>
+    ensures ok { IfOk result (λ r. after (fix which (shapes old.now) (bodies old.now)) r ≡ fix which (shapes (bodies_after old.now new)) (bodies (bodies_after old.now new))) }
+    ensures err { OnErr result (result ≡ Err TermFault.NoMemory) }
+{
+    match new {
+        None => Ok(None),
+        Some(bodies) => Ok(Some(shared(alloc, Term::Fix { which, bodies })?)),
+    }
 }

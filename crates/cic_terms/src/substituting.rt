@@ -1,15 +1,16 @@
 //! Substitution: a term is put in for a Rel, and those above it are lowered.
 ghost use Rattle.std.specs.Prelude.{◌≡◌, ◌+◌, ◌-◌, ◌*◌, ◌^◌, ◌≤◌, ◌<◌, ◌∷◌, [], IfOk, OnOk, OnErr, Err};
 ghost use Rattle.cic_terms.specs.Denotes.{tree, branches, bodies, terms, shapes, shape, body_parts, tree_sort};
-ghost use Rattle.cic_terms.specs.Answer.{Makes, MakesShared, MakesChildren, MakesBody, MakesBodies, Changes, after};
+ghost use Rattle.cic_terms.specs.Answer.{Makes, MakesShared, MakesChildren, MakesBody, MakesBodies, Changes, branches_after, terms_after, bodies_after, after};
 ghost use Rattle.cic_terms.specs.Tree.{rel};
 ghost use Rattle.cic_terms.specs.Lift.{lift_tree, subst_tree, subst_children};
 
-use crate::lifting::{MOST, ROOM, lift_at};
+use crate::gathering::{make_body, more_bodies, more_branches, more_terms};
+use crate::lifting::{MOST, ROOM, lift_at, stays};
 use crate::sharing::{
     make_app, make_case, make_fix, make_lam, make_let, make_prod, make_rel, part, taken,
 };
-use crate::term::{Branch, Branches, FixBodies, FixBody, Term, TermFault, Terms, keep, shared};
+use crate::term::{Branches, FixBodies, FixBody, Term, TermFault, Terms, shared};
 use std::alloc::Global;
 use std::rc::Rc;
 
@@ -58,38 +59,23 @@ fn subst_rel_at(
     Ok(Some(make_rel(alloc, n - 1)?))
 }
 
-/// `subst_at`, for a term in a list.
+/// `subst_at`, which does not call it for a term that is seen at once to stay.
 #[cycle(subst)]
-#[inline(never)]
-fn subst_term(
+#[inline(always)]
+fn subst_under(
     alloc: Global,
     t: &Term,
     at: u128,
     with: &Rc<Term>,
     room: u32,
-) -> Result<Term, TermFault>
+) -> Result<Option<Rc<Term>>, TermFault>
     requires { at + room * 2 ^ 66 < 2 ^ 127 }
-    ensures { Makes room (subst_tree at (tree with.now.value) (tree t.now)) result }
+    ensures { Changes room (tree t.now) (subst_tree at (tree with.now.value) (tree t.now)) result }
 {
-    let replaced = subst_at(alloc, t, at, with, room)?;
-    taken(t, replaced)
-}
-
-/// `subst_at`, for a part behind a pointer.
-#[cycle(subst)]
-#[inline(never)]
-fn subst_part(
-    alloc: Global,
-    t: &Rc<Term>,
-    at: u128,
-    with: &Rc<Term>,
-    room: u32,
-) -> Result<Rc<Term>, TermFault>
-    requires { at + room * 2 ^ 66 < 2 ^ 127 }
-    ensures { MakesShared room (subst_tree at (tree with.now.value) (tree t.now.value)) result }
-{
-    let replaced = subst_at(alloc, t, at, with, room)?;
-    part(t, replaced)
+    if stays(t, at, room) {
+        return Ok(None);
+    }
+    subst_at(alloc, t, at, with, room)
 }
 
 /// Gives nothing where nothing changes.
@@ -112,24 +98,24 @@ fn subst_at(
         Term::Rel(n) => subst_rel_at(alloc, *n, at, with, room),
         Term::Sort(_) | Term::Const(_) | Term::Ind(_) | Term::Ctor(_) => Ok(None),
         Term::Prod(a, b) => {
-            let new_a = subst_at(alloc, a, at, with, room - 1)?;
-            let new_b = subst_at(alloc, b, at + 1, with, room - 1)?;
+            let new_a = subst_under(alloc, a, at, with, room - 1)?;
+            let new_b = subst_under(alloc, b, at + 1, with, room - 1)?;
             make_prod(alloc, a, b, new_a, new_b)
         }
         Term::Lam(a, b) => {
-            let new_a = subst_at(alloc, a, at, with, room - 1)?;
-            let new_b = subst_at(alloc, b, at + 1, with, room - 1)?;
+            let new_a = subst_under(alloc, a, at, with, room - 1)?;
+            let new_b = subst_under(alloc, b, at + 1, with, room - 1)?;
             make_lam(alloc, a, b, new_a, new_b)
         }
         Term::Let { body, ty, rest } => {
-            let new_body = subst_at(alloc, body, at, with, room - 1)?;
-            let new_ty = subst_at(alloc, ty, at, with, room - 1)?;
-            let new_rest = subst_at(alloc, rest, at + 1, with, room - 1)?;
+            let new_body = subst_under(alloc, body, at, with, room - 1)?;
+            let new_ty = subst_under(alloc, ty, at, with, room - 1)?;
+            let new_rest = subst_under(alloc, rest, at + 1, with, room - 1)?;
             make_let(alloc, body, ty, rest, new_body, new_ty, new_rest)
         }
         Term::App(f, x) => {
-            let new_f = subst_at(alloc, f, at, with, room - 1)?;
-            let new_x = subst_at(alloc, x, at, with, room - 1)?;
+            let new_f = subst_under(alloc, f, at, with, room - 1)?;
+            let new_x = subst_under(alloc, x, at, with, room - 1)?;
             make_app(alloc, f, x, new_f, new_x)
         }
         Term::Case {
@@ -139,63 +125,78 @@ fn subst_at(
             scrutinee,
             branches,
         } => {
-            let motive = subst_part(alloc, motive, at + (*arity as u128 + 1), with, room - 1)?;
-            let scrutinee = subst_part(alloc, scrutinee, at, with, room - 1)?;
-            let branches = subst_all_branches(alloc, branches, at, with, room - 1)?;
-            Ok(Some(make_case(alloc, *arity, ind, motive, scrutinee, branches)?))
+            let new_motive = subst_under(alloc, motive, at + (*arity as u128 + 1), with, room - 1)?;
+            let new_scrutinee = subst_under(alloc, scrutinee, at, with, room - 1)?;
+            let new_branches = subst_all_branches(alloc, branches, at, with, room - 1)?;
+            make_case(
+                alloc,
+                *arity,
+                ind,
+                motive,
+                scrutinee,
+                branches,
+                new_motive,
+                new_scrutinee,
+                new_branches,
+            )
         }
         Term::Fix { which, bodies } => {
-            let bodies = subst_all_bodies(alloc, bodies, at, with, room - 1)?;
-            Ok(Some(make_fix(alloc, *which, bodies)?))
+            let new_bodies = subst_all_bodies(alloc, bodies, at, with, room - 1)?;
+            make_fix(alloc, *which, bodies, new_bodies)
         }
     }
 }
 
 #[cycle(subst)]
+#[inline(never)]
 fn subst_all_branches(
     alloc: Global,
     all: &Branches,
     at: u128,
     with: &Rc<Term>,
     room: u32,
-) -> Result<Branches, TermFault>
+) -> Result<Option<Rc<Branches>>, TermFault>
     requires { at + (room + 1) * 2 ^ 66 < 2 ^ 127 }
-    ensures { MakesChildren branches room (subst_children at (tree with.now.value) (branches all.now)) result }
+    ensures { MakesChildren (branches_after all.now) room (subst_children at (tree with.now.value) (branches all.now)) result }
 {
-    let mut items = Vec::new(alloc);
-    for branch in &all.items {
-        let body = subst_term(alloc, &branch.body, at + branch.binders as u128, with, room)?;
-        keep(
-            &mut items,
-            Branch {
-                binders: branch.binders,
-                body,
-            },
-        )?;
+    let old = all.items.as_slice();
+    let mut made = None;
+    for (i, branch) in old.iter().enumerate() {
+        let new = subst_under(alloc, &branch.body, at + branch.binders as u128, with, room)?;
+        made = more_branches(alloc, old, i, branch, made, new)?;
     }
-    Ok(Branches { items })
+    match made {
+        None => Ok(None),
+        Some(items) => Ok(Some(shared(alloc, Branches { items })?)),
+    }
 }
 
 #[cycle(subst)]
+#[inline(never)]
 fn subst_all_terms(
     alloc: Global,
     all: &Terms,
     at: u128,
     with: &Rc<Term>,
     room: u32,
-) -> Result<Terms, TermFault>
+) -> Result<Option<Terms>, TermFault>
     requires { at + (room + 1) * 2 ^ 66 < 2 ^ 127 }
-    ensures { MakesChildren terms room (subst_children at (tree with.now.value) (terms all.now)) result }
+    ensures { MakesChildren (terms_after all.now) room (subst_children at (tree with.now.value) (terms all.now)) result }
 {
-    let mut items = Vec::new(alloc);
-    for (above, term) in all.items.iter().enumerate() {
-        let replaced = subst_term(alloc, term, at + above as u128, with, room)?;
-        keep(&mut items, replaced)?;
+    let old = all.items.as_slice();
+    let mut made = None;
+    for (above, term) in old.iter().enumerate() {
+        let new = subst_under(alloc, term, at + above as u128, with, room)?;
+        made = more_terms(alloc, old, above, term, made, new)?;
     }
-    Ok(Terms { items })
+    match made {
+        None => Ok(None),
+        Some(items) => Ok(Some(Terms { items })),
+    }
 }
 
 #[cycle(subst)]
+#[inline(never)]
 fn subst_body(
     alloc: Global,
     one: &FixBody,
@@ -203,46 +204,46 @@ fn subst_body(
     at: u128,
     with: &Rc<Term>,
     room: u32,
-) -> Result<FixBody, TermFault>
+) -> Result<Option<FixBody>, TermFault>
     requires { at + (room + 1) * 2 ^ 66 < 2 ^ 127 }
     ensures { MakesBody count room one.now (subst_children at (tree with.now.value) (body_parts count one.now)) result }
 {
     let above = one.domains.items.len();
-    let domains = subst_all_terms(alloc, &one.domains, at, with, room)?;
-    let codomain = subst_term(alloc, &one.codomain, at + above as u128, with, room)?;
-    let body = subst_term(
+    let new_domains = subst_all_terms(alloc, &one.domains, at, with, room)?;
+    let new_codomain = subst_under(alloc, &one.codomain, at + above as u128, with, room)?;
+    let new_body = subst_under(
         alloc,
         &one.body,
         at + (count as u128 + above as u128),
         with,
         room,
     )?;
-    Ok(FixBody {
-        k: one.k,
-        domains,
-        codomain,
-        body,
-    })
+    make_body(alloc, one, new_domains, new_codomain, new_body)
 }
 
 #[cycle(subst)]
+#[inline(never)]
 fn subst_all_bodies(
     alloc: Global,
     all: &FixBodies,
     at: u128,
     with: &Rc<Term>,
     room: u32,
-) -> Result<FixBodies, TermFault>
+) -> Result<Option<Rc<FixBodies>>, TermFault>
     requires { at + (room + 1) * 2 ^ 66 < 2 ^ 127 }
     ensures { MakesBodies room all.now (subst_children at (tree with.now.value) (bodies all.now)) result }
 {
     let count = all.items.len();
-    let mut items = Vec::new(alloc);
-    for one in &all.items {
-        let replaced = subst_body(alloc, one, count, at, with, room)?;
-        keep(&mut items, replaced)?;
+    let old = all.items.as_slice();
+    let mut made = None;
+    for (i, one) in old.iter().enumerate() {
+        let new = subst_body(alloc, one, count, at, with, room)?;
+        made = more_bodies(alloc, old, i, one, made, new)?;
     }
-    Ok(FixBodies { items })
+    match made {
+        None => Ok(None),
+        Some(items) => Ok(Some(shared(alloc, FixBodies { items })?)),
+    }
 }
 
 /// Puts `with` in for Rel `at`, lifted to where it is put, and lowers those above it. A part that stays as it is, is shared.

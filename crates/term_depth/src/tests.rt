@@ -95,37 +95,86 @@ fn sample_fix(alloc: Global, n: u8) -> Result<Term, Fail> {
     }
 }
 
+/// A `forall` or a `fun` whose parts each are the variable `n` outside it.
+fn sample_binder(alloc: Global, is_prod: bool, n: u8) -> Result<Term, Fail> {
+    let outside = u32::from(n);
+    let domain = node(alloc, Term::Rel(outside))?;
+    let under = node(alloc, Term::Rel(outside + 1))?;
+    if is_prod {
+        Ok(Term::Prod(domain, under))
+    } else {
+        Ok(Term::Lam(domain, under))
+    }
+}
+
+/// A `let` whose parts each are the variable `n` outside it.
+fn sample_let(alloc: Global, n: u8) -> Result<Term, Fail> {
+    let outside = u32::from(n);
+    let body = node(alloc, Term::Rel(outside))?;
+    let ty = node(alloc, Term::Rel(outside))?;
+    let rest = node(alloc, Term::Rel(outside + 1))?;
+    Ok(Term::Let { body, ty, rest })
+}
+
+/// An application whose parts each are the variable `n`.
+fn sample_app(alloc: Global, n: u8) -> Result<Term, Fail> {
+    let outside = u32::from(n);
+    let f = node(alloc, Term::Rel(outside))?;
+    Ok(Term::App(f, node(alloc, Term::Rel(outside))?))
+}
+
+/// One term of each kind: `forall`, `fun`, `let`, an application, a match and a `fix`.
+fn sample(alloc: Global, kind: u8, n: u8) -> Result<Term, Fail> {
+    match kind {
+        0 => sample_binder(alloc, true, n),
+        1 => sample_binder(alloc, false, n),
+        2 => sample_let(alloc, n),
+        3 => sample_app(alloc, n),
+        4 => sample_case(alloc, n),
+        _ => sample_fix(alloc, n),
+    }
+}
+
+fn lifts_to(alloc: Global, kind: u8, n: u8, from: u32, by: u32, want: u8) -> Result<bool, Fail> {
+    let lifted = lift(alloc, &sample(alloc, kind, n)?, from, by)?;
+    Ok(same(&lifted, &sample(alloc, kind, want)?))
+}
+
+fn puts_in(alloc: Global, kind: u8, n: u8, at: u32, want: u8) -> Result<bool, Fail> {
+    let replaced = subst(alloc, &sample(alloc, kind, n)?, at, &Term::Rel(5))?;
+    Ok(same(&replaced, &sample(alloc, kind, want)?))
+}
+
 #[test]
-fn rows(rt: HostRuntime) -> Result<(), Fail> {
+fn lifted_rows(rt: HostRuntime) -> Result<(), Fail> {
+    for kind in 0..6_u8 {
+        for (n, from, by, want) in [(0_u8, 0, 1, 1_u8), (1, 1, 2, 3), (0, 1, 9, 0), (3, 9, 9, 3)] {
+            let right = lifts_to(rt.alloc(), kind, n, from, by, want)?;
+            assert!(rt; right, "{kind} {n} {from}");
+        }
+    }
+    Ok(())
+}
+
+#[test]
+fn substituted_rows(rt: HostRuntime) -> Result<(), Fail> {
+    for kind in 0..6_u8 {
+        for (n, at, want) in [(0_u8, 0, 5_u8), (1, 1, 6), (4, 1, 3), (0, 1, 0), (3, 9, 3)] {
+            let right = puts_in(rt.alloc(), kind, n, at, want)?;
+            assert!(rt; right, "{kind} {n} {at}");
+        }
+    }
+    Ok(())
+}
+
+#[test]
+fn other_rows(rt: HostRuntime) -> Result<(), Fail> {
     let alloc = rt.alloc();
     let nat = id(alloc, "nat")?;
     let case = sample_case(alloc, 0)?;
-    assert!(rt; same(&lift(alloc, &case, 0, 1)?, &sample_case(alloc, 1)?));
-    assert!(rt; same(&lift(alloc, &case, 1, 9)?, &case));
-    assert!(rt;
-        same(
-            &subst(alloc, &case, 0, &Term::Rel(5))?,
-            &sample_case(alloc, 5)?
-        )
-    );
-    assert!(rt;
-        same(
-            &subst(alloc, &sample_case(alloc, 4)?, 0, &Term::Rel(5))?,
-            &sample_case(alloc, 3)?
-        )
-    );
     assert!(rt; !same(&case, &sample_case(alloc, 1)?));
     assert!(rt; mentions(&case, &nat));
     assert!(rt; !mentions(&case, &id(alloc, "bool")?));
-    let fix = sample_fix(alloc, 0)?;
-    assert!(rt; same(&lift(alloc, &fix, 0, 2)?, &sample_fix(alloc, 2)?));
-    assert!(rt;
-        same(
-            &subst(alloc, &fix, 0, &Term::Rel(7))?,
-            &sample_fix(alloc, 7)?
-        )
-    );
-    assert!(rt; same(&subst(alloc, &fix, 1, &Term::Rel(7))?, &fix));
     assert!(rt; lift(alloc, &Term::Rel(1_048_575), 0, 1).is_ok());
     assert_eq!(rt;
         lift(alloc, &Term::Rel(1_048_576), 0, 1).err(),

@@ -1,4 +1,4 @@
-use Rattle.std.proofs.Common.{◌∙◌, sym, ◌≡◌, ◌+◌, length, arith, true≢false}
+use Rattle.std.proofs.Common.{◌∙◌, sym, ◌≡◌, length, arith, true≢false}
 use Rattle.cic_terms.specs.declared.term.Branches.{out-Branches}
 use Rattle.cic_terms.specs.declared.term.FixBodies.{out-FixBodies}
 use Rattle.cic_terms.proofs.Children.{drop_at}

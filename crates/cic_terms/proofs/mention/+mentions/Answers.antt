@@ -1,7 +1,5 @@
-use Rattle.std.proofs.Common.{◌+◌, drop, arith}
+use Rattle.std.proofs.Common.{arith}
 use Rattle.std.proofs.lemmas.Grind.{common_steps}
-use Rattle.cic_terms.specs.Denotes.{terms, tree, body_list, body_parts, domain_count}
-use Rattle.cic_terms.specs.Tree.{Children, child, many, no_child}
 use Rattle.cic_terms.proofs.Children.{drop_at}
 use Rattle.cic_terms.proofs.Rows.{branches_are}
 use Rattle.cic_terms.proofs.Mentioned.{mention_step, bodies_mention_are}

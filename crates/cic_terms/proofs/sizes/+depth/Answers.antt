@@ -1,5 +1,5 @@
-use Rattle.std.proofs.Common.{◌≡◌, ◌+◌, ◌≤◌, List, [], ◌∷◌, length, drop, ap, sym, ◌∙◌, arith}
-use Rattle.cic_terms.specs.Denotes.{tree, branch_list, body_list, term_list, body_parts}
+use Rattle.std.proofs.Common.{◌+◌, List, drop, ap, sym, ◌∙◌, arith}
+use Rattle.cic_terms.specs.Denotes.{branch_list, body_list, term_list, body_parts}
 use Rattle.cic_terms.specs.Sizes.{depth_children}
 use Rattle.cic_terms.specs.declared.term.Term.{Term}
 use Rattle.cic_terms.specs.declared.term.Branch.{Branch}

@@ -1,140 +1,171 @@
-use Rattle.std.proofs.Common.{◌≡◌, ◌+◌, ◌≤◌, List, [], ◌∷◌, ◌++◌, length, drop, ap, sym, ◌∙◌, arith, subst, length-append}
+use Rattle.std.proofs.Common.{◌≡◌, refl, ◌+◌, List, ◌++◌, length, drop, ap, sym, ◌∙◌}
 use Rattle.std.proofs.lemmas.Result.{err_from_is_err_and}
-use Rattle.cic_terms.specs.Denotes.{tree, branch_list, body_list, term_list, body_parts, domain_count}
-use Rattle.cic_terms.specs.Tree.{join}
+use Rattle.cic_terms.specs.Denotes.{tree, branches, bodies, shapes, terms, shape_list, branch_list, body_list, term_list, body_parts, domain_count}
+use Rattle.cic_terms.specs.Tree.{join, child, many}
+use Rattle.cic_terms.specs.Answer.{so_far, body_after}
 use Rattle.cic_terms.specs.Lift.{subst_children}
 use Rattle.cic_terms.specs.declared.term.Term.{Term}
 use Rattle.cic_terms.specs.declared.term.Branch.{Branch}
 use Rattle.cic_terms.specs.declared.term.FixBody.{FixBody}
 use Rattle.cic_terms.specs.declared.term.FixBodies.{out-FixBodies}
-use Rattle.cic_terms.proofs.Rows.{branches-roll, bodies-roll, shapes-roll, branches_are, bodies_are, shapes_are, branch_more, term_more, body_more, shapes_more, shapes_end, shapes_count, terms_count_subst, subst_parts, parts_fit, fits_parts, parts_are}
+use Rattle.cic_terms.proofs.Rows.{branches-roll, bodies-roll, shapes-roll, branches_are, bodies_are, shapes_are, body_more, shapes_more, shapes_end, shapes_count, count_terms_list, subst_parts, fits_parts}
+use Rattle.cic_terms.proofs.Gathered.{whole_list, body_made, parts_are_same, shapes_are_same}
 use Rattle.cic_terms.proofs.Limits.{no_room}
-use Rattle.cic_terms.proofs.Children.{drop_at, drop_whole, children_begin, children_more, children_refused, children_end, kid_fits, fits_kid, second_fits, subst_join}
+use Rattle.cic_terms.proofs.Children.{drop_at, drop_whole, children_begin, children_more, children_refused, children_end, kid_fits, fits_kid, second_fits, subst_join, count_subst}
 use Rattle.cic_terms.proofs.substituting.+subst.Goals as goal
 
-pub subst_all_bodies-loop-one-init : goal.subst_all_bodies-loop-one-init
-subst_all_bodies-loop-one-init t c =
+pub subst_all_bodies-loop-i-init : goal.subst_all_bodies-loop-i-init
+subst_all_bodies-loop-i-init t c =
     let n : c.len-count.result ≡ length (out-FixBodies c.args.all.now).items.items = c.len-count.ensures ∙ (out-FixBodies c.args.all.now).items.ok.0 in (
-      rw c.new-items.ensures.items (shapes_are _ _ c.deref-one-items.ensures.value),
-      children_begin _ _ _ _ (ap (body_list c.len-count.result) c.new-items.ensures.items) (ap (subst_children c.args.at (tree c.args.with.now.value)) (bodies_are _ _ _ c.deref-one-items.ensures.value n)),
+      shapes_are _ _ c.as_slice-old.ensures.value,
+      children_begin _ _ _ _ refl (ap (subst_children c.args.at (tree c.args.with.now.value)) (bodies_are _ _ _ c.as_slice-old.ensures.value n)),
     )
 
-pub subst_all_bodies-returns-in_err-replaced : goal.subst_all_bodies-returns-in_err-replaced
-subst_all_bodies-returns-in_err-replaced t c =
+pub subst_all_bodies-returns-in_err-new : goal.subst_all_bodies-returns-in_err-new
+subst_all_bodies-returns-in_err-new t c =
     let p = err_from_is_err_and c.from_residual.result c.from_residual.ensures.1 in
-    let now = ap (λ (l : List FixBody). subst_children c.args.at (tree c.args.with.now.value) (body_list c.len-count.result l)) (drop_at c.deref-one-items.result.now c.loop-one.one-index c.one-item.result c.loop-one-test.true c.one-item.is)
-    ∙ subst_join c.args.at (tree c.args.with.now.value) (body_parts c.len-count.result c.one-item.result) (body_list c.len-count.result (drop (c.loop-one.one-index + 1) c.deref-one-items.result.now)) in
-    rw (p.1, p.2) (record { shapes = tt; children = record { ok = tt; fits = tt; deep = λ d. children_refused _ _ _ _ _ _ c.loop-one.invariant.1 now (c.in_err-replaced.ensures.children.deep d) } })
+    let now = ap (λ (l : List FixBody). subst_children c.args.at (tree c.args.with.now.value) (body_list c.len-count.result l)) (drop_at c.as_slice-old.result.now c.loop-i.i c.index-old-i.result c.loop-i-test.true c.index-old-i.is)
+    ∙ subst_join c.args.at (tree c.args.with.now.value) (body_parts c.len-count.result c.index-old-i.result) (body_list c.len-count.result (drop (c.loop-i.i + 1) c.as_slice-old.result.now)) in
+    rw (p.1, p.2) (record { shapes = tt; children = record { ok = tt; fits = tt; deep = λ d. children_refused _ _ _ _ _ _ c.loop-i.invariant.1 now (c.in_err-new.ensures.children.deep d) } })
 
-pub subst_all_bodies-loop-one-preserved : goal.subst_all_bodies-loop-one-preserved
-subst_all_bodies-loop-one-preserved t c =
-    let at = drop_at c.deref-one-items.result.now c.loop-one.one-index c.one-item.result c.loop-one-test.true c.one-item.is in
+pub subst_all_bodies-loop-i-preserved : goal.subst_all_bodies-loop-i-preserved
+subst_all_bodies-loop-i-preserved t c =
+    let at = drop_at c.as_slice-old.result.now c.loop-i.i c.index-old-i.result c.loop-i-test.true c.index-old-i.is in
     let now = ap (λ (l : List FixBody). subst_children c.args.at (tree c.args.with.now.value) (body_list c.len-count.result l)) at
-    ∙ subst_join c.args.at (tree c.args.with.now.value) (body_parts c.len-count.result c.one-item.result) (body_list c.len-count.result (drop (c.loop-one.one-index + 1) c.deref-one-items.result.now)) in
-    let made = ap (body_list c.len-count.result) c.in_ok-keep.ensures.ok ∙ body_more c.len-count.result c.loop-one.items.items c.in_ok-replaced.replaced
-    ∙ ap (join (body_list c.len-count.result c.loop-one.items.items)) c.in_ok-replaced.ensures.children.ok in (
-      shapes_more _ _ _ _ _ _ _ c.loop-one.invariant.0 at c.in_ok-keep.ensures.ok c.in_ok-replaced.ensures.shape,
-      children_more _ _ _ _ _ _ _ c.loop-one.invariant.1 now made c.in_ok-replaced.ensures.children.fits,
+    ∙ subst_join c.args.at (tree c.args.with.now.value) (body_parts c.len-count.result c.index-old-i.result) (body_list c.len-count.result (drop (c.loop-i.i + 1) c.as_slice-old.result.now)) in
+    let b = body_after c.index-old-i.result c.in_ok-new.new in
+    let so = so_far c.as_slice-old.result.now c.loop-i.i c.loop-i.made in
+    let more = c.in_ok-made.ensures.ok in
+    let made = parts_are_same c.len-count.result _ _ more ∙ body_more c.len-count.result so b ∙ ap (join (body_list c.len-count.result so)) c.in_ok-new.ensures.children.ok in (
+      ap (λ z. z ++ shape_list (drop (c.loop-i.i + 1) c.as_slice-old.result.now)) (shapes_are_same _ _ more)
+          ∙ shapes_more so _ b c.index-old-i.result _ _ _ c.loop-i.invariant.0 at refl c.in_ok-new.ensures.shape,
+      children_more _ _ _ _ _ _ _ c.loop-i.invariant.1 now made c.in_ok-new.ensures.children.fits,
     )
 
-pub subst_all_bodies-returns : goal.subst_all_bodies-returns
-subst_all_bodies-returns t c =
+pub subst_all_bodies-returns-in-None : goal.subst_all_bodies-returns-in-None
+subst_all_bodies-returns-in-None t c =
     let n : c.len-count.result ≡ length (out-FixBodies c.args.all.now).items.items = c.len-count.ensures ∙ (out-FixBodies c.args.all.now).items.ok.0 in
-    let none = drop_whole c.deref-one-items.result.now c.loop-one.one-index c.loop-one-test.false in
-    let all = rw none at c.loop-one.invariant in
-    let s = shapes_end c.loop-one.items.items _ all.0 in
-    let p = children_end c.args.room (body_list c.len-count.result c.loop-one.items.items) _ all.1 in
+    let none = drop_whole c.as_slice-old.result.now c.loop-i.i c.loop-i-test.false in
+    let kept = whole_list c.as_slice-old.result.now c.loop-i.i c.loop-i.made c.in-None.is c.loop-i-test.false in
+    let all = rw none at c.loop-i.invariant in
+    let p = children_end c.args.room (body_list c.len-count.result (so_far c.as_slice-old.result.now c.loop-i.i c.loop-i.made)) _ all.1 in
     record {
-      shapes = shapes-roll _ ∙ s;
-      children = record { ok = bodies-roll _ c.len-count.result (shapes_count c.loop-one.items.items c.args.all.now s ∙ sym n) ∙ p.0; fits = p.1; deep = tt };
+      shapes = refl;
+      children = record {
+        ok = sym (bodies_are _ _ _ c.as_slice-old.ensures.value n) ∙ ap (body_list c.len-count.result) (sym kept) ∙ p.0;
+        fits = p.1;
+        deep = tt;
+      };
     }
 
-pub subst_all_branches-loop-branch-init : goal.subst_all_branches-loop-branch-init
-subst_all_branches-loop-branch-init t c =
-    children_begin _ _ _ _ (ap branch_list c.new-items.ensures.items) (ap (subst_children c.args.at (tree c.args.with.now.value)) (branches_are _ _ c.deref-branch-items.ensures.value))
+pub subst_all_bodies-returns-in_ok-shared-in-Some : goal.subst_all_bodies-returns-in_ok-shared-in-Some
+subst_all_bodies-returns-in_ok-shared-in-Some t c =
+    let n : c.len-count.result ≡ length (out-FixBodies c.args.all.now).items.items = c.len-count.ensures ∙ (out-FixBodies c.args.all.now).items.ok.0 in
+    let none = drop_whole c.as_slice-old.result.now c.loop-i.i c.loop-i-test.false in
+    let all = rw none at c.loop-i.invariant in
+    let s = ap (λ m. shape_list (so_far c.as_slice-old.result.now c.loop-i.i m)) (sym c.in-Some.is) ∙ shapes_end (so_far c.as_slice-old.result.now c.loop-i.i c.loop-i.made) _ all.0 in
+    let p = children_end c.args.room (body_list c.len-count.result (so_far c.as_slice-old.result.now c.loop-i.i c.loop-i.made)) _ all.1 in
+    record {
+      shapes = ap shapes c.in_ok-shared-in-Some.ensures.ok ∙ shapes-roll _ ∙ s;
+      children = record {
+        ok = ap bodies c.in_ok-shared-in-Some.ensures.ok ∙ bodies-roll _ c.len-count.result (shapes_count c.in-Some.items.items c.args.all.now s ∙ sym n)
+            ∙ ap (λ m. body_list c.len-count.result (so_far c.as_slice-old.result.now c.loop-i.i m)) (sym c.in-Some.is) ∙ p.0;
+        fits = p.1;
+        deep = tt;
+      };
+    }
 
-pub subst_all_branches-returns-in_err-body : goal.subst_all_branches-returns-in_err-body
-subst_all_branches-returns-in_err-body t c =
+pub subst_all_branches-loop-i-init : goal.subst_all_branches-loop-i-init
+subst_all_branches-loop-i-init t c = children_begin _ _ _ _ refl (ap (subst_children c.args.at (tree c.args.with.now.value)) (branches_are _ _ c.as_slice-old.ensures.value))
+
+pub subst_all_branches-returns-in_err-new : goal.subst_all_branches-returns-in_err-new
+subst_all_branches-returns-in_err-new t c =
     let p = err_from_is_err_and c.from_residual.result c.from_residual.ensures.1 in
-    let now = ap (λ (l : List Branch). subst_children c.args.at (tree c.args.with.now.value) (branch_list l)) (drop_at c.deref-branch-items.result.now c.loop-branch.branch-index c.branch-item.result c.loop-branch-test.true c.branch-item.is) in
-    rw (p.1, p.2) (record { ok = tt; fits = tt; deep = λ d. children_refused _ _ _ _ _ _ c.loop-branch.invariant now (λ h. c.in_err-body.ensures.deep d (fits_kid _ _ _ h)) })
+    let now = ap (λ (l : List Branch). subst_children c.args.at (tree c.args.with.now.value) (branch_list l)) (drop_at c.as_slice-old.result.now c.loop-i.i c.index-old-i.result c.loop-i-test.true c.index-old-i.is) in
+    rw (p.1, p.2) (record { ok = tt; fits = tt; deep = λ d. children_refused _ _ _ _ _ _ c.loop-i.invariant now (λ h. c.in_err-new.ensures.deep d (fits_kid _ _ _ h)) })
 
-pub subst_all_branches-loop-branch-preserved : goal.subst_all_branches-loop-branch-preserved
-subst_all_branches-loop-branch-preserved t c =
-    let now = ap (λ (l : List Branch). subst_children c.args.at (tree c.args.with.now.value) (branch_list l)) (drop_at c.deref-branch-items.result.now c.loop-branch.branch-index c.branch-item.result c.loop-branch-test.true c.branch-item.is) in
-    let b : Branch = record { binders = c.branch-item.result.binders; body = c.in_ok-body.body } in
-    let made = ap branch_list c.in_ok-keep.ensures.ok ∙ branch_more c.loop-branch.items.items b in
-    children_more _ _ _ _ _ _ _ c.loop-branch.invariant (cc (now, c.in_ok-body.ensures.ok)) made (rw c.in_ok-body.ensures.ok (kid_fits _ _ _ c.in_ok-body.ensures.fits))
+pub subst_all_branches-loop-i-preserved : goal.subst_all_branches-loop-i-preserved
+subst_all_branches-loop-i-preserved t c =
+    let now = ap (λ (l : List Branch). subst_children c.args.at (tree c.args.with.now.value) (branch_list l)) (drop_at c.as_slice-old.result.now c.loop-i.i c.index-old-i.result c.loop-i-test.true c.index-old-i.is) in
+    children_more _ _ _ _ _ _ _ c.loop-i.invariant (now ∙ ap (λ z. child (many c.index-old-i.result.binders) z (subst_children c.args.at (tree c.args.with.now.value) (branch_list (drop (c.loop-i.i + 1) c.as_slice-old.result.now)))) (sym c.in_ok-new.ensures.ok)) c.in_ok-made.ensures.ok (rw c.in_ok-new.ensures.ok (kid_fits _ _ _ c.in_ok-new.ensures.fits))
 
-pub subst_all_branches-returns : goal.subst_all_branches-returns
-subst_all_branches-returns t c =
-    let none = drop_whole c.deref-branch-items.result.now c.loop-branch.branch-index c.loop-branch-test.false in
-    let p = children_end c.args.room (branch_list c.loop-branch.items.items) _ (rw none at c.loop-branch.invariant) in
-    record { ok = branches-roll _ ∙ p.0; fits = p.1; deep = tt }
+pub subst_all_branches-returns-in-None : goal.subst_all_branches-returns-in-None
+subst_all_branches-returns-in-None t c =
+    let none = drop_whole c.as_slice-old.result.now c.loop-i.i c.loop-i-test.false in
+    let kept = whole_list c.as_slice-old.result.now c.loop-i.i c.loop-i.made c.in-None.is c.loop-i-test.false in
+    let p = children_end c.args.room (branch_list (so_far c.as_slice-old.result.now c.loop-i.i c.loop-i.made)) _ (rw none at c.loop-i.invariant) in
+    record { ok = sym (branches_are _ _ c.as_slice-old.ensures.value) ∙ ap branch_list (sym kept) ∙ p.0; fits = p.1; deep = tt }
 
-pub subst_all_terms-loop-above-init : goal.subst_all_terms-loop-above-init
-subst_all_terms-loop-above-init t c = (
-  ap length c.new-items.ensures.items,
-  children_begin _ _ _ _ (ap (term_list 0) c.new-items.ensures.items) (ap (λ (l : List Term). subst_children c.args.at (tree c.args.with.now.value) (term_list 0 l)) c.deref-term-items.ensures.value),
-)
+pub subst_all_branches-returns-in_ok-shared-in-Some : goal.subst_all_branches-returns-in_ok-shared-in-Some
+subst_all_branches-returns-in_ok-shared-in-Some t c =
+    let none = drop_whole c.as_slice-old.result.now c.loop-i.i c.loop-i-test.false in
+    let p = children_end c.args.room (branch_list (so_far c.as_slice-old.result.now c.loop-i.i c.loop-i.made)) _ (rw none at c.loop-i.invariant) in
+    record {
+      ok = ap branches c.in_ok-shared-in-Some.ensures.ok ∙ branches-roll _ ∙ ap (λ m. branch_list (so_far c.as_slice-old.result.now c.loop-i.i m)) (sym c.in-Some.is) ∙ p.0;
+      fits = p.1;
+      deep = tt;
+    }
 
-pub subst_all_terms-returns-in_err-replaced : goal.subst_all_terms-returns-in_err-replaced
-subst_all_terms-returns-in_err-replaced t c =
+pub subst_all_terms-returns-in_err-new : goal.subst_all_terms-returns-in_err-new
+subst_all_terms-returns-in_err-new t c =
     let p = err_from_is_err_and c.from_residual.result c.from_residual.ensures.1 in
-    let now = ap (λ (l : List Term). subst_children c.args.at (tree c.args.with.now.value) (term_list c.loop-above.above l)) (drop_at c.deref-term-items.result.now c.loop-above.above c.term-item.result c.loop-above-test.true c.term-item.is) in
-    rw (p.1, p.2) (record { ok = tt; fits = tt; deep = λ d. children_refused _ _ _ _ _ _ c.loop-above.invariant.1 now (λ h. c.in_err-replaced.ensures.deep d (fits_kid _ _ _ h)) })
+    let now = ap (λ (l : List Term). subst_children c.args.at (tree c.args.with.now.value) (term_list c.loop-above.above l)) (drop_at c.as_slice-old.result.now c.loop-above.above c.index-old-above.result c.loop-above-test.true c.index-old-above.is) in
+    rw (p.1, p.2) (record { ok = tt; fits = tt; deep = λ d. children_refused _ _ _ _ _ _ c.loop-above.invariant.1 now (λ h. c.in_err-new.ensures.deep d (fits_kid _ _ _ h)) })
 
 pub subst_all_terms-loop-above-preserved : goal.subst_all_terms-loop-above-preserved
 subst_all_terms-loop-above-preserved t c =
-    let now = ap (λ (l : List Term). subst_children c.args.at (tree c.args.with.now.value) (term_list c.loop-above.above l)) (drop_at c.deref-term-items.result.now c.loop-above.above c.term-item.result c.loop-above-test.true c.term-item.is) in
-    let made = ap (term_list 0) c.in_ok-keep.ensures.ok ∙ term_more 0 c.loop-above.above c.loop-above.items.items c.in_ok-replaced.replaced (omega (arith, c.loop-above.invariant.0)) in (
-      rw c.in_ok-keep.ensures.ok (rw length-append (ap (λ n. n + 1) c.loop-above.invariant.0)),
-      children_more _ _ _ _ _ _ _ c.loop-above.invariant.1 (cc (now, c.in_ok-replaced.ensures.ok)) made (rw c.in_ok-replaced.ensures.ok (kid_fits _ _ _ c.in_ok-replaced.ensures.fits)),
+    let now = ap (λ (l : List Term). subst_children c.args.at (tree c.args.with.now.value) (term_list c.loop-above.above l)) (drop_at c.as_slice-old.result.now c.loop-above.above c.index-old-above.result c.loop-above-test.true c.index-old-above.is) in (
+      c.in_ok-made.ensures.length,
+      children_more _ _ _ _ _ _ _ c.loop-above.invariant.1 (cc (now, c.in_ok-new.ensures.ok)) c.in_ok-made.ensures.ok (rw c.in_ok-new.ensures.ok (kid_fits _ _ _ c.in_ok-new.ensures.fits)),
     )
 
-pub subst_all_terms-returns : goal.subst_all_terms-returns
-subst_all_terms-returns t c =
-    let none = drop_whole c.deref-term-items.result.now c.loop-above.above c.loop-above-test.false in
+pub subst_all_terms-returns-in-None : goal.subst_all_terms-returns-in-None
+subst_all_terms-returns-in-None t c =
+    let none = drop_whole c.as_slice-old.result.now c.loop-above.above c.loop-above-test.false in
+    let kept = whole_list c.as_slice-old.result.now c.loop-above.above c.loop-above.made c.in-None.is c.loop-above-test.false in
     let all = rw none at (c.loop-above.invariant.1) in
-    let p = children_end c.args.room (term_list 0 c.loop-above.items.items) _ all in
-    record { ok = p.0; fits = p.1; deep = tt }
+    let p = children_end c.args.room (term_list 0 (so_far c.as_slice-old.result.now c.loop-above.above c.loop-above.made)) _ all in
+    record { ok = ap (term_list 0) (sym c.as_slice-old.ensures.value) ∙ ap (term_list 0) (sym kept) ∙ p.0; fits = p.1; deep = tt }
 
-pub subst_at-returns-then-room-eq0 : goal.subst_at-returns-then-room-eq0
-subst_at-returns-then-room-eq0 t c = record { ok = tt; fits = tt; deep = λ d. rw c.if-room-eq0.true (no_room _) }
+pub subst_all_terms-returns-in-Some : goal.subst_all_terms-returns-in-Some
+subst_all_terms-returns-in-Some t c =
+    let none = drop_whole c.as_slice-old.result.now c.loop-above.above c.loop-above-test.false in
+    let all = rw none at (c.loop-above.invariant.1) in
+    let p = children_end c.args.room (term_list 0 (so_far c.as_slice-old.result.now c.loop-above.above c.loop-above.made)) _ all in
+    record { ok = ap (λ m. term_list 0 (so_far c.as_slice-old.result.now c.loop-above.above m)) (sym c.in-Some.is) ∙ p.0; fits = p.1; deep = tt }
 
-pub subst_body-returns-in_err-domains : goal.subst_body-returns-in_err-domains
-subst_body-returns-in_err-domains t c =
+pub subst_body-returns-in_err-new_domains : goal.subst_body-returns-in_err-new_domains
+subst_body-returns-in_err-new_domains t c =
     let p = err_from_is_err_and c.from_residual.result c.from_residual.ensures.1 in
-    rw (p.1, p.2, subst_parts) (record { shape = tt; children = record { ok = tt; fits = tt; deep = λ d h. c.in_err-domains.ensures.deep d (fits_parts _ _ _ _ _ _ h).0 } })
+    rw (p.1, p.2, subst_parts) (record { shape = tt; children = record { ok = tt; fits = tt; deep = λ d h. c.in_err-new_domains.ensures.deep d (fits_parts _ _ _ _ _ _ h).0 } })
 
-pub subst_body-returns-in_err-codomain : goal.subst_body-returns-in_err-codomain
-subst_body-returns-in_err-codomain t c =
-    let p = err_from_is_err_and c.from_residual-in_err-codomain.result c.from_residual-in_err-codomain.ensures.1 in
+pub subst_body-returns-in_err-new_codomain : goal.subst_body-returns-in_err-new_codomain
+subst_body-returns-in_err-new_codomain t c =
+    let p = err_from_is_err_and c.from_residual-in_err-new_codomain.result c.from_residual-in_err-new_codomain.ensures.1 in
     let n : c.len-above.result ≡ domain_count c.args.one.now = c.len-above.ensures ∙ c.args.one.now.domains.items.ok.0 in
-    let never = rw n at (c.in_err-codomain.ensures.deep) in
+    let never = rw n at (c.in_err-new_codomain.ensures.deep) in
     rw (p.1, p.2, subst_parts) (record { shape = tt; children = record { ok = tt; fits = tt; deep = λ d h. never d (fits_parts _ _ _ _ _ _ h).1 } })
 
-pub subst_body-returns-in_err-body : goal.subst_body-returns-in_err-body
-subst_body-returns-in_err-body t c =
-    let p = err_from_is_err_and c.from_residual-in_err-body.result c.from_residual-in_err-body.ensures.1 in
+pub subst_body-returns-in_err-new_body : goal.subst_body-returns-in_err-new_body
+subst_body-returns-in_err-new_body t c =
+    let p = err_from_is_err_and c.from_residual-in_err-new_body.result c.from_residual-in_err-new_body.ensures.1 in
     let n : c.len-above.result ≡ domain_count c.args.one.now = c.len-above.ensures ∙ c.args.one.now.domains.items.ok.0 in
-    let never = rw n at (c.in_err-body.ensures.deep) in
+    let never = rw n at (c.in_err-new_body.ensures.deep) in
     rw (p.1, p.2, subst_parts) (record { shape = tt; children = record { ok = tt; fits = tt; deep = λ d h. never d (fits_parts _ _ _ _ _ _ h).2 } })
 
 pub subst_body-returns : goal.subst_body-returns
 subst_body-returns t c =
     let n : c.len-above.result ≡ domain_count c.args.one.now = c.len-above.ensures ∙ c.args.one.now.domains.items.ok.0 in
-    let codomain = rw n at (c.in_ok-codomain.ensures) in
-    let body = rw n at (c.in_ok-body.ensures) in
-    let m = terms_count_subst c.args.at (tree c.args.with.now.value) c.in_ok-domains.domains c.args.one.now.domains c.in_ok-domains.ensures.ok in
-    rw subst_parts (record {
-      shape = ap (λ m. record { k = c.args.one.now.k; domains = m }) m;
-      children = record {
-        ok = parts_are c.args.count _ _ _ _ _ _ _ _ c.in_ok-domains.ensures.ok m codomain.ok body.ok;
-        fits = parts_fit _ _ _ _ _ _ c.in_ok-domains.ensures.fits codomain.fits body.fits;
-        deep = tt;
-      };
-    })
+    let codomain = rw n at (c.in_ok-new_codomain.ensures) in
+    let body = rw n at (c.in_ok-new_body.ensures) in
+    let domains = c.in_ok-new_domains.ensures in
+    let count = count_subst c.args.at (tree c.args.with.now.value) (terms c.args.one.now.domains) ∙ count_terms_list 0 c.args.one.now.domains.items.items in
+    rw subst_parts (
+    body_made c.args.count c.args.room c.args.one.now _ _ _ _ _ _ c.make_body.result c.make_body.ensures.ok c.make_body.ensures.err domains.ok codomain.ok body.ok domains.fits codomain.fits body.fits count
+    )
+
+pub subst_at-returns-then-room-eq0 : goal.subst_at-returns-then-room-eq0
+subst_at-returns-then-room-eq0 t c = record { ok = tt; fits = tt; deep = λ d. rw c.if-room-eq0.true (no_room _) }
 
 pub subst_at-returns-in_err-new_b-in-Prod : goal.subst_at-returns-in_err-new_b-in-Prod
 subst_at-returns-in_err-new_b-in-Prod t c =
@@ -153,3 +184,9 @@ subst_at-returns-in_err-new_ty-in-Let t c =
     let p = err_from_is_err_and c.from_residual-in_err-new_ty-in-Let.result c.from_residual-in_err-new_ty-in-Let.ensures.1 in
     let never = rw c.deref-in-Let-2.ensures at (c.in_err-new_ty-in-Let.ensures.deep) in
     rw (p.1, p.2, c.in-Let.is) (record { ok = tt; fits = tt; deep = λ d h. never d (second_fits _ _ _ _ _ _ _ c.if-room-eq0.false h) })
+
+pub subst_at-returns-in_err-new_scrutinee-in-Case : goal.subst_at-returns-in_err-new_scrutinee-in-Case
+subst_at-returns-in_err-new_scrutinee-in-Case t c =
+    let p = err_from_is_err_and c.from_residual-in_err-new_scrutinee-in-Case.result c.from_residual-in_err-new_scrutinee-in-Case.ensures.1 in
+    let never = rw c.deref-in-Case-2.ensures at (c.in_err-new_scrutinee-in-Case.ensures.deep) in
+    rw (p.1, p.2, c.in-Case.is) (record { ok = tt; fits = tt; deep = λ d h. never d (second_fits _ _ _ _ _ _ _ c.if-room-eq0.false h) })
