@@ -1,5 +1,6 @@
--- A derivation by hand: the function on nat that is O everywhere, with a match, a fixpoint, conversion by
--- the definition of its codomain, and the type of O got from an equation about it.
+-- A derivation by hand: the function on nat that is O everywhere, with a match, a fixpoint, conversion by the
+-- definition of its codomain, and the type of O got from an equation about it. It shows that the rules derive what
+-- they should, so that they are not void.
 use Rattle.std.proofs.Common.{◌≢◌, ℕ, [], ◌∷◌, refl, arith, codes}
 use Rattle.cic_terms.specs.Tree.{prop, set, own, rel, sort, prod, app, ind}
 use Rattle.cic_rules.specs.Environment.{Context, assumed}

@@ -1,16 +1,18 @@
--- The functions of a Fix are read off its parts.
+-- The functions of a Fix are read off its parts, and the arguments of an application off the application. So what
+-- the tests of the check read off a term is what the rules put it together from.
 use Rattle.std.proofs.Common.{◌≡◌, ℕ, ◌+◌, Some, List, [], ◌∷◌, ◌++◌, length, take, drop, refl, ap, ap₂, sym, ◌∙◌}
 use Rattle.std.proofs.Math.Nat.{zero-add, add-zero, suc-add}
 use Rattle.std.proofs.Math.Seq.{take-append_seam, drop-append-add}
-use Rattle.cic_terms.specs.Tree.{Tree, Children, no_child, child, join}
-use Rattle.cic_rules.specs.Telescopes.{Function, domain_parts, function_parts, function_shapes, trees_of, tree_at, split_functions, functions_if_parts, functions_of}
+use Rattle.std.proofs.lemmas.List.{append-nil, append_assoc}
+use Rattle.cic_terms.specs.Tree.{Tree, Children, no_child, child, join, app}
+use Rattle.cic_rules.specs.Telescopes.{Function, domain_parts, function_parts, function_shapes, trees_of, tree_at, split_functions, functions_if_parts, functions_of, apply, arguments_of}
 use Rattle.cic_counted.proofs.Decided.{same_children-refl}
 
-trees_of-join : (ks ls : Children) → trees_of (join ks ls) ≡ trees_of ks ++ trees_of ls
+pub trees_of-join : (ks ls : Children) → trees_of (join ks ls) ≡ trees_of ks ++ trees_of ls
 trees_of-join no_child ls = refl
 trees_of-join (child b t ks) ls = ap (λ z. t ∷ z) (trees_of-join ks ls)
 
-trees_of-domains : (above : ℕ) (as_ : List Tree) → trees_of (domain_parts above as_) ≡ as_
+pub trees_of-domains : (above : ℕ) (as_ : List Tree) → trees_of (domain_parts above as_) ≡ as_
 trees_of-domains above [] = refl
 trees_of-domains above (a ∷ as_) = ap (λ z. a ∷ z) (trees_of-domains (above + 1) as_)
 
@@ -43,3 +45,8 @@ functions_of-parts fs =
     let parts = function_parts (length fs) fs in
     let are_parts : functions_if_parts parts fs ≡ Some fs = rw (same_children-refl parts) refl in
     ap (functions_if_parts parts) (split_parts (length fs) fs) ∙ are_parts
+
+-- The arguments of an application in a row.
+pub arguments_of_apply : (us : List Tree) (f : Tree) → arguments_of (apply f us) ≡ arguments_of f ++ us
+arguments_of_apply [] f = sym (append-nil (arguments_of f))
+arguments_of_apply (u ∷ us) f = arguments_of_apply us (app f u) ∙ append_assoc (arguments_of f) (u ∷ []) us

@@ -1,19 +1,21 @@
--- Different constraints have different keys, so a set keeps every constraint that is put into it.
+-- Different constraints have different keys, so a set keeps every constraint that is put into it. So a numbering that
+-- meets the constraints found meets each of them, which the soundness of the check rests on.
 use Rattle.std.proofs.Common.{◌≡◌, ℕ, Bool, true, false, if◌then◌else◌, nat_lt, List, [], ◌∷◌, ◌++◌, length, refl, sym, ap, ap₂, ◌∙◌, arith, subst}
 use Rattle.std.proofs.lemmas.List.{append-nil, append_assoc}
 use Rattle.std.proofs.lemmas.Bool.{ltb-false}
 use Rattle.cic_terms.specs.declared.level.Part.{Part}
 use Rattle.cic_terms.specs.declared.level.Part.TheVariants.{Declared, Visible, Proof}
-use Rattle.cic_terms.specs.declared.level.LevelName.{LevelName}
 use Rattle.cic_terms.specs.declared.level.Level.{Level}
 use Rattle.cic_terms.specs.declared.level.Level.TheVariants.{Set, Named}
 use Rattle.cic_rules.specs.Constraints.{Constraint, name_key, part_key, level_key, strict_key, constraint_key, Comparison, below, equal, above, compare_keys, insert_by, insert}
 use Rattle.cic_rules.specs.Numbering.{Numbering, Meets, MeetsAll}
+use Rattle.cic_counted.proofs.Decided.{make_level}
 
-heads : {x y : ℕ} {xs ys : List ℕ} → x ∷ xs ≡ y ∷ ys → x ≡ y
+-- Equal lists begin alike and go on alike.
+pub heads : {A : Type 0} {x y : A} {xs ys : List A} → x ∷ xs ≡ y ∷ ys → x ≡ y
 heads e = cc
 
-tails : {x y : ℕ} {xs ys : List ℕ} → x ∷ xs ≡ y ∷ ys → xs ≡ ys
+pub tails : {A : Type 0} {x y : A} {xs ys : List A} → x ∷ xs ≡ y ∷ ys → xs ≡ ys
 tails e = cc
 
 append_inj : (xs ys r s : List ℕ) → length xs ≡ length ys → xs ++ r ≡ ys ++ s → (xs ≡ ys) × (r ≡ s)
@@ -43,11 +45,7 @@ part_not_zero Declared e = omega (arith, e)
 part_not_zero Visible e = omega (arith, e)
 part_not_zero Proof e = omega (arith, e)
 
-make_level : List ℕ → List ℕ → Part → ℕ → LevelName
-make_level lib owner part number = record { lib = lib; owner = owner; part = part; number = number }
-
 level_inj : (l m : Level) (r s : List ℕ) → level_key l ++ r ≡ level_key m ++ s → (l ≡ m) × (r ≡ s)
-unfolding make_level
 level_inj Set Set r s e = (refl, tails e)
 level_inj Set (Named b) r s e = absurd (part_not_zero b.part (heads e))
 level_inj (Named a) Set r s e = absurd (part_not_zero a.part (sym (heads e)))

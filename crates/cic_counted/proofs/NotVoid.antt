@@ -1,11 +1,12 @@
--- What the rules do not derive.
-use Rattle.std.proofs.Common.{◌≡◌, ℕ, zero, suc, ◌≤◌, true, false, nat_eq, Option, Some, None, List, [], ◌∷◌, ◌++◌, length, if◌then◌else◌, refl, sym, ap, ◌∙◌, arith, subst, inl, inr, lit<, lit≤, eq-eqb, codes}
-use Rattle.std.proofs.lemmas.List.{append-nil, append_assoc}
+-- What the rules do not derive: that sorts of different numbers are convertible, subtyping in domains, large
+-- elimination of a proposition with two constructors, a Fix that calls itself on its own argument, a type left of an
+-- arrow, a step of an opaque constant. It shows that the rules refuse what they should, so that they are not void.
+use Rattle.std.proofs.Common.{◌≡◌, ℕ, zero, suc, ◌≤◌, true, false, Option, Some, None, List, [], ◌∷◌, ◌++◌, length, if◌then◌else◌, refl, sym, ap, ◌∙◌, arith, subst, inl, inr, lit<, lit≤, codes}
 use Rattle.cic_terms.specs.Tree.{TreeSort, prop, set, Former, Binders, none, one, over, Tree, rel, node, Children, no_child, child, sort, prod, app, const, ind, ctor}
 use Rattle.cic_terms.specs.declared.name.GlobalId.{GlobalId}
 use Rattle.cic_terms.specs.declared.level.LevelName.{LevelName}
 use Rattle.cic_terms.specs.declared.level.Level.TheVariants as Level
-use Rattle.cic_rules.specs.Sameness.{same_list, same_id, same_level_name}
+use Rattle.cic_rules.specs.Sameness.{same_level_name}
 use Rattle.cic_rules.specs.Numbering.{Numbering, IsNumbering, level_number, sort_number}
 use Rattle.cic_rules.specs.Environment.{Environment, Context, TypeDeclaration, ConstructorDeclaration, opaque, declared, under_unknown, transparent_body, element}
 use Rattle.cic_rules.specs.Telescopes.{apply, arguments_of, products, fixpoint, conclusion_of}
@@ -16,6 +17,8 @@ use Rattle.cic_counted.specs.Examples.{id_of, bad_block, f_function}
 use Rattle.cic_rules.specs.Step.{Step, StepInside, beta, zeta, delta_variable, delta_constant, iota_match, iota_fix, inside, in_rest, here, there}
 use Rattle.cic_rules.specs.Conversion.{Convertible, identical, step_left, step_right, same_former, equal_universes, ConvertibleParts, no_parts, both_parts, AtMost}
 use Rattle.cic_rules.specs.Conversion as C
+use Rattle.cic_counted.proofs.Decided.{same_id-refl}
+use Rattle.cic_counted.proofs.Functions.{arguments_of_apply}
 
 -- A Fix under arguments that are not none is an application.
 abbrev IsApp : Tree → Type 0
@@ -30,7 +33,11 @@ apply_more_is_app : (before : List Tree) (f u : Tree) → IsApp (apply f (before
 apply_more_is_app [] f u = tt
 apply_more_is_app (v ∷ before) f u = apply_is_app (before ++ u ∷ []) f v
 
--- A sort takes no step.
+-- There is no step where there is no part, and a sort takes none.
+inside_none : {E : Environment} {G : Context} {ks ls : Children} → StepInside E G ks ls → ks ≡ no_child → ⊥
+inside_none (here h) q = grind arith
+inside_none (there h) q = grind arith
+
 sort_steps : {E : Environment} {G : Context} {s t : Tree} → Step E G s t → (r : TreeSort) → s ≡ sort r → ⊥
 sort_steps (beta e) r q = grind arith
 sort_steps (zeta e) r q = grind arith
@@ -42,10 +49,6 @@ sort_steps (inside h) r q = inside_none h (parts_of q)
   where
     parts_of : {f g : Former} {ks ls : Children} → node f ks ≡ node g ls → ks ≡ ls
     parts_of q = cc
-
-    inside_none : {E : Environment} {G : Context} {ks ls : Children} → StepInside E G ks ls → ks ≡ no_child → ⊥
-    inside_none (here h) q = grind arith
-    inside_none (there h) q = grind arith
 sort_steps (in_rest h) r q = grind arith
 
 pub one_number : {E : Environment} {N : Numbering} {G : Context} {a b : Tree} → Convertible E N G a b → (s s' : TreeSort) → a ≡ sort s → b ≡ sort s' → sort_number N s ≡ sort_number N s'
@@ -56,10 +59,6 @@ one_number (same_former n h) s s' p q = cc
 one_number (equal_universes i j) s s' p q = cc
 
 -- The parts of a product over a sort: a step among them is one of the codomain.
-inside_none : {E : Environment} {G : Context} {ks ls : Children} → StepInside E G ks ls → ks ≡ no_child → ⊥
-inside_none (here h) q = grind arith
-inside_none (there h) q = grind arith
-
 inside_last : {E : Environment} {G : Context} {ks ls : Children} → StepInside E G ks ls → (b : Tree) → ks ≡ child one b no_child → (b' : Tree) × (ls ≡ child one b' no_child)
 inside_last (here {t' = b'} h) b q = (b', cc)
 inside_last (there h) b q = absurd (inside_none h cc)
@@ -67,6 +66,13 @@ inside_last (there h) b q = absurd (inside_none h cc)
 inside_product : {E : Environment} {G : Context} {ks ls : Children} → StepInside E G ks ls → (r : TreeSort) (b : Tree) → ks ≡ child none (sort r) (child one b no_child) → (b' : Tree) × (ls ≡ child none (sort r) (child one b' no_child))
 inside_product (here h) r b q = absurd (sort_steps h r cc)
 inside_product (there h) r b q = let s = inside_last h b cc in let e = s.1 in (s.0, cc)
+
+-- The binders of a first part, and the domain of a product, are read off.
+binders_of : {x y : Binders} {t u : Tree} {ks ls : Children} → child x t ks ≡ child y u ls → x ≡ y
+binders_of e = cc
+
+pub domain_of : {a a' b b' : Tree} → prod a b ≡ prod a' b' → a ≡ a'
+domain_of e = cc
 
 -- A step of a product over a sort keeps the domain.
 product_steps : {E : Environment} {G : Context} {s t : Tree} → Step E G s t → (r : TreeSort) (b : Tree) → s ≡ prod (sort r) b → (b' : Tree) × (t ≡ prod (sort r) b')
@@ -85,9 +91,6 @@ first_parts {E} {N} {G} (both_parts {b = n} {t = t} {t' = t'} h hs) s s' b c p q
     let at_none : Convertible E N G t t' = subst (λ z. Convertible E N (under_unknown (over z 0) G) t t') (binders_of p) h in
     subst (λ z. Convertible E N G z (sort s')) (term_of p) (subst (λ z. Convertible E N G t z) (term_of q) at_none)
   where
-    binders_of : {x y : Binders} {t u : Tree} {ks ls : Children} → child x t ks ≡ child y u ls → x ≡ y
-    binders_of e = cc
-
     term_of : {x y : Binders} {t u : Tree} {ks ls : Children} → child x t ks ≡ child y u ls → t ≡ u
     term_of e = cc
 
@@ -108,9 +111,6 @@ domains_of_at_most (C.AtMost.step_right h k) s s' b c p q = let r = product_step
 domains_of_at_most (C.sorts h) s s' b c p q = absurd (grind arith)
 domains_of_at_most {E} {N} {G} (C.products {a = a} {a' = a'} h k) s s' b c p q =
     subst (λ z. Convertible E N G z (sort s')) (domain_of p) (subst (λ z. Convertible E N G a z) (domain_of q) h)
-  where
-    domain_of : {a a' b b' : Tree} → prod a b ≡ prod a' b' → a ≡ a'
-    domain_of e = cc
 
 -- What ends products is their conclusion.
 ends : (domains : List Tree) (s : TreeSort) → conclusion_of (products domains (sort s)) ≡ sort s
@@ -126,11 +126,6 @@ not_into_set (of_no_proposition ds s' e n) domains c d cs a k q =
     n (sort_inj (sym (ends ds s') ∙ ap conclusion_of (sym e ∙ a) ∙ ends domains prop))
 not_into_set (without_constructor e) domains c d cs a k q = let f : ◌≡◌ {A = List ConstructorDeclaration} [] (c ∷ d ∷ cs) = sym e ∙ k in grind arith
 not_into_set (of_propositions c' ps as_ us e t l h) domains c d cs a k q = let f : c' ∷ [] ≡ c ∷ d ∷ cs = sym e ∙ k in grind arith
-
--- The arguments of an application in a row.
-arguments-apply : (us : List Tree) (f : Tree) → arguments_of (apply f us) ≡ arguments_of f ++ us
-arguments-apply [] f = sym (append-nil (arguments_of f))
-arguments-apply (u ∷ us) f = arguments-apply us (app f u) ∙ append_assoc (arguments_of f) (u ∷ []) us
 
 element_of_none : (k : ℕ) (u : Tree) → element {A = Tree} [] k ≡ Some u → ⊥
 element_of_none k u e = grind arith
@@ -152,7 +147,7 @@ module _ {recursive : GlobalId → ℕ → Option (List Mark)} {places : List �
   function_not_fine : {marks : Marks} {t : Tree} → Fine recursive places marks t → t ≡ rel 1 → marks 1 ≡ function 0 → ⊥
   function_not_fine {marks} (fine_variable {x = x} n) e q = let z : x ≡ 1 = cc in n 0 (ap marks z ∙ q)
   function_not_fine (fine_call x j k us u a m p el s h) e q =
-      let none_left : us ≡ [] = sym (arguments-apply us (rel x)) ∙ ap arguments_of (sym a ∙ e) in
+      let none_left : us ≡ [] = sym (arguments_of_apply us (rel x)) ∙ ap arguments_of (sym a ∙ e) in
       element_of_none k u (ap (λ z. element z k) (sym none_left) ∙ el)
   function_not_fine (fine_parts h) e q = grind arith
   function_not_fine (fine_match_on_smaller k p v h) e q = grind arith
@@ -163,14 +158,11 @@ module _ {recursive : GlobalId → ℕ → Option (List Mark)} {places : List �
       let at_none : Fine recursive places marks t = subst (λ z. Fine recursive places (under_plain (over z 0) marks) t) (binders_of e) h in
       let is_function : t ≡ rel 1 = cc in
       function_not_fine at_none is_function q
-    where
-      binders_of : {x y : Binders} {t u : Tree} {ks ls : Children} → child x t ks ≡ child y u ls → x ≡ y
-      binders_of e = cc
 
   pub call_not_fine : {marks : Marks} {t : Tree} → Fine recursive places marks t → t ≡ app (rel 1) (rel 0) → marks 1 ≡ function 0 → marks 0 ≡ main → ⊥
   call_not_fine (fine_variable n) e q m = grind arith
   call_not_fine (fine_call x j k us u a f p el s h) e q m =
-      let one_left : us ≡ rel 0 ∷ [] = sym (arguments-apply us (rel x)) ∙ ap arguments_of (sym a ∙ e) in
+      let one_left : us ≡ rel 0 ∷ [] = sym (arguments_of_apply us (rel x)) ∙ ap arguments_of (sym a ∙ e) in
       main_not_smaller s (element_of_one k (rel 0) u (ap (λ z. element z k) (sym one_left) ∙ el)) m
   call_not_fine (fine_parts {ks = ks} h) e q m =
       let parts : ks ≡ child none (rel 1) (child none (rel 0) no_child) = cc in
@@ -207,9 +199,6 @@ bad_not_positive (in_codomain {a = a} h k) e = let is_bad : a ≡ ind bad_id = c
 argument_not_positive : (arguments us : List Tree) (id : GlobalId) → prod (prod (ind bad_id) (ind bad_id)) (ind bad_id) ≡ products arguments (apply (ind id) us) → Each (StrictlyPositive (bad_id ∷ [])) arguments → ⊥
 argument_not_positive [] us id e h = applied_not_product us id (prod (ind bad_id) (ind bad_id)) (ind bad_id) e
 argument_not_positive (a ∷ as_) us id e h = bad_not_positive h.0 (sym (domain_of e))
-  where
-    domain_of : {a a' b b' : Tree} → prod a b ≡ prod a' b' → a ≡ a'
-    domain_of e = cc
 
 constructor_not_positive : (id : GlobalId) (domains arguments us vs : List Tree) → prod (prod (ind bad_id) (ind bad_id)) (ind bad_id) ≡ products domains (products arguments (apply (ind id) (us ++ vs))) → length domains ≡ 0 → Each (StrictlyPositive (bad_id ∷ [])) arguments → ⊥
 constructor_not_positive id [] arguments us vs e l h = argument_not_positive arguments (us ++ vs) id e h
@@ -219,13 +208,6 @@ pub bad_block_not_positive : PositiveBlock bad_block → ⊥
 bad_block_not_positive h = let k = h.0.0 in constructor_not_positive bad_id k.domains k.arguments k.applied_to k.indices k.is_type k.as_many_domains k.arguments_positive
 
 -- An opaque constant.
-same_bytes-refl : (xs : List ℕ) → same_list nat_eq xs xs ≡ true
-same_bytes-refl [] = refl
-same_bytes-refl (x ∷ xs) = rw (eq-eqb x x refl) (same_bytes-refl xs)
-
-same_id-refl : (id : GlobalId) → same_id id id ≡ true
-same_id-refl id = rw (same_bytes-refl id.lib) (same_bytes-refl id.name)
-
 opaque_body : (E : Environment) (id : GlobalId) (type : Tree) (body : Option Tree) → transparent_body (declared (opaque id type body) ∷ E) id ≡ None
 opaque_body E id type body = rw (same_id-refl id) refl
 

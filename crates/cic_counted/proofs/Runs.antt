@@ -1,4 +1,6 @@
--- Where the relation of evaluation holds, the counted function is done, at every budget that suffices.
+-- Where the relation of evaluation holds, the counted function is done, at every budget that suffices. By one
+-- induction on the relation; so the relation says no less than the function, and what holds of the one can be proved
+-- by the other.
 use Rattle.std.proofs.Common.{◌≡◌, ℕ, zero, suc, ◌+◌, ◌-◌, ◌≤◌, max, true, false, if◌then◌else◌, Some, List, length, refl, sym, ap, ap₂, ◌∙◌, arith, subst}
 use Rattle.cic_terms.specs.Tree.{Tree, rel, lam, let_in, app, const, case}
 use Rattle.cic_terms.specs.Lift.{lift_tree, subst_tree}
@@ -10,26 +12,24 @@ use Rattle.cic_counted.specs.Evaluation.{answer, again, variable_turn, constant_
 use Rattle.cic_counted.specs.Done.{insert_all, left_after, Cost, free, ◌then◌, called, stepped, IsAbstraction, Stays, Evaluates, Reduces, evaluates, stays, variable_stays, variable_steps, constant_stays, constant_steps, let_steps, function_applied, application_stays, recursion_stays, recursion_steps, match_stays, match_steps}
 use Rattle.cic_counted.proofs.Taken.{insert_all-append}
 
-make : ℕ → List Constraint → Budget
-make rest found = record { rest = rest; found = found }
+-- The budget with so much left and these constraints found.
+abbrev pub made : ℕ → List Constraint → Budget
+made rest found = record { rest = rest; found = found }
 
 pub left_free : (b : Budget) → b ≡ left_after free b
-unfolding make
-left_free b = let e : b.rest ≡ b.rest - 0 = omega arith in ap (λ r. make r b.found) e
+left_free b = let e : b.rest ≡ b.rest - 0 = omega arith in ap (λ r. made r b.found) e
 
 -- The budget with one taken from the rest.
 abbrev pub less_one : Budget → Budget
 less_one b = record { rest = b.rest - 1; found = b.found }
 
 left_stepped : (c : Cost) (b : Budget) → left_after c (less_one b) ≡ left_after (stepped c) b
-unfolding make
-left_stepped c b = let e : b.rest - 1 - c.steps ≡ b.rest - (c.steps + 1) = omega arith in ap (λ r. make r (insert_all b.found c.found)) e
+left_stepped c b = let e : b.rest - 1 - c.steps ≡ b.rest - (c.steps + 1) = omega arith in ap (λ r. made r (insert_all b.found c.found)) e
 
 pub left_then : (c d : Cost) (b : Budget) → left_after d (left_after c b) ≡ left_after (c then d) b
-unfolding make
 left_then c d b =
     let e : b.rest - c.steps - d.steps ≡ b.rest - (c.steps + d.steps) = omega arith in
-    ap₂ make e (sym (insert_all-append b.found c.found d.found))
+    ap₂ made e (sym (insert_all-append b.found c.found d.found))
 
 -- A step.
 fit_at : (t : Tree) (h : Tree → Tree) (rest : ℕ) (found : List Constraint) → 1 ≤ rest → is_small t ≡ true → follow (tick (record { rest = rest; found = found })) (λ _. fitting t >>= (λ u. give (again (h u)))) ≡ done (again (h t)) (record { rest = rest - 1; found = found })
@@ -39,6 +39,16 @@ fit_at t h (suc r) found p s = let e : suc r - 1 ≡ r = omega arith in rw (s, e
 step_at : (t : Tree) (rest : ℕ) (found : List Constraint) → 1 ≤ rest → follow (tick (record { rest = rest; found = found })) (λ _. give (again t)) ≡ done (again t) (record { rest = rest - 1; found = found })
 step_at t zero found p = absurd (omega (arith, p))
 step_at t (suc r) found p = let e : suc r - 1 ≡ r = omega arith in rw e refl
+
+-- What is within a bound, and along an equation of costs.
+pub max_left : (m n k : ℕ) → max m n ≤ k → m ≤ k
+max_left m n k h = omega (arith, h)
+
+pub max_right : (m n k : ℕ) → max m n ≤ k → n ≤ k
+max_right m n k h = omega (arith, h)
+
+pub along : {c d : Cost} (P : Cost → Type 0) → c ≡ d → P d → P c
+along P e h = subst P (sym e) h
 
 module _ (E : Environment) (G : Context) where
   loop_answer : (whnf : Tree → Counted Tree) (n : ℕ) (t w : Tree) (b b' : Budget) → turn_of whnf E G t b ≡ done (answer w) b' → loop_of n whnf E G t b ≡ done w b'
@@ -101,20 +111,11 @@ module _ (E : Environment) (G : Context) where
       (λ m r. h m (less_one b) (omega (arith, p)) (omega (arith, p, q, r)) ∙ ap (done v) (left_stepped d b))
 
   enter_at : (k : ℕ) (t v : Tree) (c : Cost) → Runs k t v c → (rest : ℕ) (found : List Constraint) → c.steps + 1 ≤ rest → follow (tick (record { rest = rest; found = found })) (λ _ b. loop_of b.rest (whnf_at k E G) E G t b) ≡ done v (left_after (called c) (record { rest = rest; found = found }))
-  unfolding Runs make
+  unfolding Runs
   enter_at k t v c h zero found p = absurd (omega (arith, p))
   enter_at k t v c h (suc r) found p =
       let e : r - c.steps ≡ suc r - (c.steps + 1) = omega arith in
-      h r (record { rest = r; found = found }) (omega (arith, p)) (omega arith) ∙ ap (λ z. done v (make z (insert_all found c.found))) e
-
-  along : {c d : Cost} (P : Cost → Type 0) → c ≡ d → P d → P c
-  along P e h = subst P (sym e) h
-
-  max_left : (m n k : ℕ) → max m n ≤ k → m ≤ k
-  max_left m n k h = omega (arith, h)
-
-  max_right : (m n k : ℕ) → max m n ≤ k → n ≤ k
-  max_right m n k h = omega (arith, h)
+      h r (record { rest = r; found = found }) (omega (arith, p)) (omega arith) ∙ ap (λ z. done v (made z (insert_all found c.found))) e
 
   call_at : (k : ℕ) (t v : Tree) (c : Cost) → ((j : ℕ) → c.depth ≤ j → Runs j t v c) → (called c).depth ≤ k → Calls k t v (called c)
   unfolding Calls whnf_at

@@ -1,5 +1,5 @@
--- Where the relations of conversion and subtyping hold, the counted functions are done, at every budget
--- that suffices.
+-- Where the relations of conversion and subtyping hold, the counted functions are done, at every budget that suffices.
+-- By one induction on the relations, over that of evaluation; typing needs it.
 use Rattle.std.proofs.Common.{◌≡◌, ◌≢◌, ℕ, zero, suc, ◌+◌, ◌-◌, ◌≤◌, max, true, false, ◌&&◌, nat_eq, if◌then◌else◌, List, [], ◌∷◌, length, refl, sym, ap, ◌∙◌, arith, subst}
 use Rattle.cic_terms.specs.Tree.{TreeSort, prop, set, typ, Former, SortF, LetF, CaseF, FixF, over, Tree, rel, node, Children, no_child, child, sort, prod}
 use Rattle.cic_terms.specs.declared.level.Level.{Level}
@@ -13,7 +13,7 @@ use Rattle.cic_counted.specs.Evaluation.{equal_sorts, atoms_below, sorts_at_most
 use Rattle.cic_counted.specs.Done.{left_after, Cost, free, ◌then◌, called, finds, insert_all, AllSmall, Evaluates, SortsEqual, same_sorts, levels_equal, AtomsBelow, no_atom, atom_below, SortsBelow, prop_below, set_below_set, set_below_universe, same_universes, levels_below, InOrder, Converts, converts_same, converts_heads, Compares, same_variables, in_order, matches, fixpoints, ConvertsParts, converts_no_part, converts_part, ConvertsEach, converts_none, converts_more, ConvertsBodies, converts_no_body, converts_body, Cumulates, cumulates_same, cumulates_heads, Below, products_below, sorts_below, compared}
 use Rattle.cic_counted.specs.Done as D
 use Rattle.cic_counted.proofs.Decided.{both_true}
-use Rattle.cic_counted.proofs.Runs.{left_free, left_then, whnf_runs}
+use Rattle.cic_counted.proofs.Runs.{left_free, left_then, whnf_runs, made, max_left, max_right, along}
 
 -- Done without a value, at a cost, at every budget that suffices.
 abbrev pub DoneAt : Counted (Unit {0}) → Cost → Type 0
@@ -26,11 +26,7 @@ in_row : (m n : Counted (Unit {0})) (c d : Cost) → DoneAt m c → DoneAt n d �
 in_row m n c d h i b p =
     ap (λ o. follow o (λ _. n)) (h b (omega (arith, p))) ∙ i (left_after c b) (omega (arith, p)) ∙ ap (done tt) (left_then c d b)
 
-made : ℕ → List Constraint → Budget
-made rest found = record { rest = rest; found = found }
-
 noted : (c : Constraint) → DoneAt (note c) (finds c)
-unfolding made
 noted c b p = let e : b.rest ≡ b.rest - 0 = omega arith in ap (λ r. done tt (made r (insert c b.found))) e
 
 same_sorts_at : (G : Context) (s s' : TreeSort) (b : Budget) → same_sort s s' ≡ true → equal_sorts G s s' b ≡ done tt b
@@ -74,20 +70,10 @@ pub body_at : (all : ℕ) (f : Function) (b : Budget) → AllSmall (lift_domains
 body_at all f b h = ap (λ o. follow o (λ as_. give (abstractions as_ f.body))) (fitting_all_at (lift_domains 0 all f.domains) b h)
 
 enter_unit : (m : Counted (Unit {0})) (c : Cost) → DoneAt m c → (rest : ℕ) (found : List Constraint) → c.steps + 1 ≤ rest → follow (tick (record { rest = rest; found = found })) (λ _. m) ≡ done tt (left_after (called c) (record { rest = rest; found = found }))
-unfolding made
 enter_unit m c h zero found p = absurd (omega (arith, p))
 enter_unit m c h (suc r) found p =
     let e : r - c.steps ≡ suc r - (c.steps + 1) = omega arith in
     h (record { rest = r; found = found }) (omega (arith, p)) ∙ ap (λ z. done tt (made z (insert_all found c.found))) e
-
-pub max_left : (m n k : ℕ) → max m n ≤ k → m ≤ k
-max_left m n k h = omega (arith, h)
-
-pub max_right : (m n k : ℕ) → max m n ≤ k → n ≤ k
-max_right m n k h = omega (arith, h)
-
-pub along : {c d : Cost} (P : Cost → Type 0) → c ≡ d → P d → P c
-along P e h = subst P (sym e) h
 
 -- Two terms that are evaluated, and then what is done with their weak head forms.
 by_heads_at : (E : Environment) (G : Context) (k : ℕ) (t t' v w : Tree) (c d e : Cost) (next : Tree → Tree → Counted (Unit {0})) → Evaluates E G t v c → Evaluates E G t' w d → DoneAt (next v w) e → max (max c.depth d.depth) e.depth ≤ k → DoneAt (whnf_at k E G t >>= (λ v. whnf_at k E G t' >>= (λ w. next v w))) (c then d then e)

@@ -1,4 +1,5 @@
--- Where the relations of typing hold, the counted functions are done, at every budget that suffices.
+-- Where the relations of typing hold, the counted functions are done, at every budget that suffices. By one induction
+-- on the relations, over those of evaluation and subtyping; so the relations say no less than the functions.
 use Rattle.std.proofs.Common.{◌≡◌, ℕ, zero, suc, ◌+◌, ◌-◌, ◌≤◌, max, Bool, true, ◌&&◌, nat_eq, if◌then◌else◌, Option, Some, None, List, [], ◌∷◌, ◌++◌, length, take, drop, refl, sym, ap, ◌∙◌, arith, subst, eq-eqb}
 use Rattle.std.specs.Prelude.{option_map}
 use Rattle.std.proofs.lemmas.List.{append_assoc}
@@ -19,11 +20,8 @@ use Rattle.cic_rules.specs.Typing.{function_entries}
 use Rattle.cic_counted.specs.Done.{left_after, insert_all, Cost, free, ◌then◌, called, AllSmall}
 use Rattle.cic_counted.specs.DoneTyping.{SmallEntries, Infers, infers, Checks, checks, SortOf, sorts_of, Exposes, exposes_itself, exposes_another, HasInferred, infers_variable, infers_prop, infers_set, infers_universe, infers_product, infers_abstraction, infers_let, infers_application, infers_constant, infers_type, infers_constructor, infers_match, infers_fix, Eliminates, eliminates_freely, eliminates_nothing, eliminates_propositions, AllPropositions, no_more, proposition, ChecksBranches, no_branch_left, checks_branch, SortsEach, sorts_none, sorts_one_more, ChecksBodies, no_body_left, checks_body}
 use Rattle.cic_counted.proofs.Decided.{both_true}
-use Rattle.cic_counted.proofs.Runs.{left_free, left_then, whnf_runs}
-use Rattle.cic_counted.proofs.RunsConversion.{fitting_at, fitting_all_at, body_at, max_left, max_right, along, cumulates_run}
-
-made : ℕ → List Constraint → Budget
-made rest found = record { rest = rest; found = found }
+use Rattle.cic_counted.proofs.Runs.{left_free, left_then, whnf_runs, made, max_left, max_right, along}
+use Rattle.cic_counted.proofs.RunsConversion.{fitting_at, fitting_all_at, body_at, cumulates_run}
 
 -- Done with a value, at a cost, at every budget that suffices.
 abbrev pub GivesAt : {A : Type 0} → Counted A → A → Cost → Type 0
@@ -219,7 +217,6 @@ module _ (E : Environment) (k : ℕ) (calls : Calls)
 
 -- The entry of a call.
 enter_with : {A : Type 0} (m : Counted A) (v : A) (c : Cost) → GivesAt m v c → (rest : ℕ) (found : List Constraint) → c.steps + 1 ≤ rest → follow (tick (record { rest = rest; found = found })) (λ _. m) ≡ done v (left_after (called c) (record { rest = rest; found = found }))
-unfolding made
 enter_with m v c h zero found p = absurd (omega (arith, p))
 enter_with m v c h (suc r) found p =
     let e : r - c.steps ≡ suc r - (c.steps + 1) = omega arith in

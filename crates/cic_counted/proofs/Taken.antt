@@ -1,4 +1,6 @@
--- What the counted functions of evaluation are done with stands in the relation, with its cost.
+-- What the counted functions of evaluation are done with stands in the relation, with its cost. By induction on the
+-- depth and on what is left of the budget; so laws of evaluation are proved by induction on the relation, and need not
+-- follow budgets.
 use Rattle.std.proofs.Common.{◌≡◌, ℕ, zero, suc, ◌+◌, ◌≤◌, max, Bool, true, false, if◌then◌else◌, Option, Some, None, List, [], ◌∷◌, ◌++◌, length, refl, sym, ap, ◌∙◌, arith, subst}
 use Rattle.cic_terms.specs.Tree.{Tree, rel, lam, let_in, app, const, case}
 use Rattle.cic_terms.specs.Lift.{lift_tree, subst_tree}

@@ -1,4 +1,5 @@
--- What conversion and subtyping are done with stands in the relation, with its cost.
+-- What conversion and subtyping are done with stands in the relation, with its cost. By induction on the depth, over
+-- that of evaluation; the laws of conversion are proved by induction on the relation.
 use Rattle.std.proofs.Common.{◌≡◌, ◌≢◌, ℕ, zero, suc, ◌≤◌, Bool, true, false, ◌&&◌, nat_eq, if◌then◌else◌, Option, Some, None, List, [], ◌∷◌, length, refl, sym, ap, ap₂, ◌∙◌, arith, subst}
 use Rattle.cic_terms.specs.Tree.{TreeSort, prop, set, typ, Shape, Former, LetF, CaseF, FixF, over, Tree, rel, node, Children, no_child, child, sort, prod}
 use Rattle.cic_terms.specs.declared.level.Level.{Level}
@@ -10,7 +11,7 @@ use Rattle.cic_rules.specs.Environment.{Environment, Context, unknown, under_unk
 use Rattle.cic_rules.specs.Telescopes.{abstractions, lift_domains, Function, trees_of, function_parts, split_functions, functions_of, function_types, full_body}
 use Rattle.cic_counted.specs.Outcome.{Budget, done, Counted, follow, ◌>>=◌, give, tick, fitting, fitting_all}
 use Rattle.cic_counted.specs.Evaluation.{equal_levels, equal_sorts, atoms_below, levels_at_most, sorts_at_most, same_places, convert_children, convert_each, fitting_body, convert_bodies, convert_functions, value_first, compare_nodes, compare, conv_step, conv_at, below_or_equal, cumul_step, cumul_at, whnf_at, differ}
-use Rattle.cic_counted.specs.Done.{Cost, free, ◌then◌, called, stepped, finds, insert_all, Took, AllSmall, Evaluates, Evaluated, SortsEqual, same_sorts, levels_equal, AtomsBelow, no_atom, atom_below, SortsBelow, prop_below, set_below_set, set_below_universe, same_universes, levels_below, InOrder, Converts, converts_same, converts_heads, Compares, same_variables, in_order, matches, fixpoints, ConvertsParts, converts_no_part, converts_part, ConvertsEach, converts_none, converts_more, ConvertsBodies, converts_no_body, converts_body, Cumulates, cumulates_same, cumulates_heads, Below, products_below, sorts_below, compared, Converted, Cumulated}
+use Rattle.cic_counted.specs.Done.{Cost, free, ◌then◌, called, finds, Took, AllSmall, Evaluates, SortsEqual, same_sorts, levels_equal, AtomsBelow, no_atom, atom_below, SortsBelow, prop_below, set_below_set, set_below_universe, same_universes, levels_below, InOrder, Converts, converts_same, converts_heads, Compares, same_variables, in_order, matches, fixpoints, ConvertsParts, converts_no_part, converts_part, ConvertsEach, converts_none, converts_more, ConvertsBodies, converts_no_body, converts_body, Cumulates, cumulates_same, cumulates_heads, Below, products_below, sorts_below, compared, Converted, Cumulated}
 use Rattle.cic_counted.specs.Done as D
 use Rattle.cic_counted.proofs.Decided.{both, both_true}
 use Rattle.cic_counted.proofs.Taken.{took_free, took_then, follow_done, done_value, done_rest, fitting_done, max_le, whnf_done}
@@ -60,7 +61,7 @@ universes_done {k} e e' u b b' n (Some m) q h =
     (r.0, levels_below m n q r.1, r.2, r.3)
 universes_done e e' u b b' n None q h = absurd (grind arith)
 
-below_done : {k : ℕ} (G : Context) (s s' : TreeSort) (u : Unit {0}) (b b' : Budget) → sorts_at_most G s s' b ≡ done u b' → At k (SortsBelow s s') b b'
+pub below_done : {k : ℕ} (G : Context) (s s' : TreeSort) (u : Unit {0}) (b b' : Budget) → sorts_at_most G s s' b ≡ done u b' → At k (SortsBelow s s') b b'
 below_done G prop s' u b b' h = at_free prop_below h
 below_done G set set u b b' h = at_free set_below_set h
 below_done G set (typ e') u b b' h = at_free set_below_universe h
@@ -111,6 +112,10 @@ length-types : (fs : List Function) → length (function_types fs) ≡ length fs
 length-types [] = refl
 length-types (f ∷ fs) = ap suc (length-types fs)
 
+second_false : (x : Bool) → (x && false) ≡ true → ⊥
+second_false true e = grind arith
+second_false false e = grind arith
+
 places_value_first : (ks ls : Children) → same_places ks ls ≡ true → same_places (value_first ks) (value_first ls) ≡ true
 places_value_first no_child no_child e = refl
 places_value_first (child b t no_child) (child c u no_child) e = e
@@ -121,15 +126,7 @@ places_value_first (child b t (child b' t' ks)) (child c u (child c' u' ls)) e =
 places_value_first no_child (child c u ls) e = absurd (grind arith)
 places_value_first (child b t ks) no_child e = absurd (grind arith)
 places_value_first (child b t no_child) (child c u (child c' u' ls)) e = absurd (second_false (same_binders b c) e)
-  where
-    second_false : (x : Bool) → (x && false) ≡ true → ⊥
-    second_false true e = grind arith
-    second_false false e = grind arith
 places_value_first (child b t (child b' t' ks)) (child c u no_child) e = absurd (second_false (same_binders b c) e)
-  where
-    second_false : (x : Bool) → (x && false) ≡ true → ⊥
-    second_false true e = grind arith
-    second_false false e = grind arith
 
 module _ (E : Environment) (k : ℕ) (conv : Context → Tree → Tree → Counted (Unit {0}))
     (calls : (G : Context) (t t' : Tree) (u : Unit {0}) (b b' : Budget) → conv G t t' b ≡ done u b' → Converted E G k t t' b b') where

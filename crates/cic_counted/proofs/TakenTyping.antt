@@ -1,4 +1,5 @@
--- What inference, check and the sort of a type are done with stands in the relation, with its cost.
+-- What inference, check and the sort of a type are done with stands in the relation, with its cost. By induction on
+-- the depth, over evaluation and subtyping; the soundness of inference is proved by induction on the relation.
 use Rattle.std.proofs.Common.{◌≡◌, ℕ, zero, suc, ◌+◌, ◌≤◌, max, Bool, true, false, not, ◌&&◌, ◌||◌, nat_eq, if◌then◌else◌, Option, Some, None, List, [], ◌∷◌, ◌++◌, length, take, drop, refl, sym, ap, ◌∙◌, arith, subst}
 use Rattle.std.specs.Prelude.{option_map}
 use Rattle.std.proofs.lemmas.Bool.{eqb-true}

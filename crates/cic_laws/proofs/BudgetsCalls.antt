@@ -1,5 +1,6 @@
--- A counted call that is not spent answers the same within a greater budget, with as much more left. It is
--- shown of what calls are put together from, and of evaluation, whose loop has as many turns as are left.
+-- A counted call that is not spent answers the same within a greater budget, with as much more left. It is shown of
+-- what calls are put together from, and of evaluation, whose loop has as many turns as are left. The check is put
+-- together from such calls, so its answer stays in a greater budget.
 use Rattle.std.proofs.Common.{◌≡◌, ◌≢◌, ℕ, zero, suc, ◌+◌, ◌≤◌, List, refl, ap, ◌∙◌, arith}
 use Rattle.cic_terms.specs.Tree.{Tree}
 use Rattle.cic_rules.specs.Constraints.{Constraint}

@@ -1,5 +1,6 @@
--- The check of one declaration answers the same within a greater budget, unless it is spent; it accepts a
--- declaration within every budget of as many steps as it took, and is spent within every smaller one.
+-- The check of one declaration answers the same within a greater budget, unless it is spent; it accepts a declaration
+-- within every budget of as many steps as it took, and is spent within every smaller one. These are the laws of
+-- budgets as they are stated for readers.
 use Rattle.std.proofs.Common.{◌≡◌, ◌≢◌, ℕ, ◌+◌, ◌-◌, ◌≤◌, ◌<◌, [], refl, sym, ap, ◌∙◌, arith, subst}
 use Rattle.cic_rules.specs.Environment.{Environment, Declaration}
 use Rattle.cic_counted.specs.Outcome.{Outcome, done, stops, refused, deep, spent, Counted}

@@ -1,6 +1,6 @@
--- A counted call that is done took a number of steps: within every budget of as many it is done with the
--- same value, and within every smaller one it is spent. It is shown of what calls are put together from;
--- of evaluation it is known from its cost.
+-- A counted call that is done took a number of steps: within every budget of as many it is done with the same value,
+-- and within every smaller one it is spent. It is shown of what calls are put together from; of evaluation it is known
+-- from its cost. So the steps that an accepted declaration took tell within which budgets it is accepted.
 use Rattle.std.proofs.Common.{◌≡◌, ◌≢◌, ℕ, zero, suc, ◌+◌, ◌-◌, ◌≤◌, ◌<◌, List, [], refl, sym, ap, ap₂, ◌∙◌, arith, subst}
 use Rattle.cic_terms.specs.Tree.{Tree}
 use Rattle.cic_rules.specs.Constraints.{Constraint, insert}
@@ -8,20 +8,17 @@ use Rattle.cic_rules.specs.Environment.{Environment, Context}
 use Rattle.cic_counted.specs.Outcome.{Budget, Outcome, done, stops, refused, deep, spent, Counted, follow, ◌>>=◌, spend}
 use Rattle.cic_counted.specs.Evaluation.{whnf_at}
 use Rattle.cic_counted.proofs.Taken.{follow_done, done_value, done_rest, whnf_done}
-use Rattle.cic_counted.proofs.Runs.{whnf_runs}
+use Rattle.cic_counted.proofs.Runs.{whnf_runs, made}
 use Rattle.cic_laws.specs.Budgets.{raised_outcome, with_rest, HasSteps}
 use Rattle.cic_laws.proofs.Closed.{Closed}
 use Rattle.cic_laws.proofs.BudgetsCalls.{Persists}
-
-abbrev left : ℕ → List Constraint → Budget
-left rest found = record { rest = rest; found = found }
 
 -- Done in some number of steps, and with the same value within every budget that has as many.
 pub record Settles (A : Type 0) (m : Counted A) : Type 0 where
   pub runs : (a : A) (b b' : Budget) → m b ≡ done a b' → (s : ℕ) × (b.rest ≡ s + b'.rest) × ((r : ℕ) → s ≤ r → m (with_rest r b) ≡ done a (with_rest (r - s) b'))
 
 -- What reads and changes the found constraints alone.
-settles_free : {A : Type 0} (g : List Constraint → A) (h : List Constraint → List Constraint) → Settles A (λ b. done (g b.found) (left b.rest (h b.found)))
+settles_free : {A : Type 0} (g : List Constraint → A) (h : List Constraint → List Constraint) → Settles A (λ b. done (g b.found) (made b.rest (h b.found)))
 settles_free g h = record {
   runs = λ a b b' e.
       let rest : b.rest ≡ b'.rest = ap (λ z. z.rest) (done_rest e) in
@@ -30,20 +27,20 @@ settles_free g h = record {
         omega (arith, rest),
         λ r l.
             let same : r ≡ r - 0 = omega arith in
-            ap₂ (λ v z. done v (left r z)) (done_value e) found ∙ ap (λ z. done a (with_rest z b')) same,
+            ap₂ (λ v z. done v (made r z)) (done_value e) found ∙ ap (λ z. done a (with_rest z b')) same,
       );
 }
 
-one_spent : (q : ℕ) (found : List Constraint) → 1 ≤ q → spend q found ≡ done tt (left (q - 1) found)
+one_spent : (q : ℕ) (found : List Constraint) → 1 ≤ q → spend q found ≡ done tt (made (q - 1) found)
 one_spent zero found l = absurd (omega arith)
-one_spent (suc q) found l = let e : q ≡ suc q - 1 = omega arith in ap (λ z. done tt (left z found)) e
+one_spent (suc q) found l = let e : q ≡ suc q - 1 = omega arith in ap (λ z. done tt (made z found)) e
 
 settles_tick : (u : Unit {0}) (rest : ℕ) (found : List Constraint) (b' : Budget) → spend rest found ≡ done u b' → (s : ℕ) × (rest ≡ s + b'.rest) × ((r : ℕ) → s ≤ r → spend r found ≡ done u (with_rest (r - s) b'))
 settles_tick u zero found b' e = cc
 settles_tick u (suc r) found b' e =
     let rest : r ≡ b'.rest = ap (λ z. z.rest) (done_rest e) in
     let same : found ≡ b'.found = ap (λ z. z.found) (done_rest e) in
-    (1, omega (arith, rest), λ q l. one_spent q found l ∙ ap (λ z. done u (left (q - 1) z)) same)
+    (1, omega (arith, rest), λ q l. one_spent q found l ∙ ap (λ z. done u (made (q - 1) z)) same)
 
 settles_bind : {A B : Type 0} {m : Counted A} {f : A → Counted B} → Settles A m → ((a : A) → Settles B (f a)) → Settles B (m >>= f)
 settles_bind {A = A} {B = B} {m = m} {f = f} p q = record {
@@ -76,7 +73,7 @@ whnf_settles k E G t = record {
   runs = λ v b b' e.
       let h = whnf_done E G k t v b b' e in
       let c = h.0 in
-      (c.steps, h.3.rest, λ r l. whnf_runs E G k t v c (with_rest r b) h.1 h.2 l ∙ ap (λ z. done v (left (r - c.steps) z)) (sym h.3.found));
+      (c.steps, h.3.rest, λ r l. whnf_runs E G k t v c (with_rest r b) h.1 h.2 l ∙ ap (λ z. done v (made (r - c.steps) z)) (sym h.3.found));
 }
 
 -- An outcome that cannot but be spent is spent.
@@ -86,7 +83,7 @@ spent_of_not (stops spent) h = refl
 spent_of_not (stops deep) h = absurd (h (λ e. cc))
 spent_of_not (stops (refused c)) h = absurd (h (λ e. cc))
 
--- What is done with more left has at least as much left.
+-- What is done with more made has at least as much made.
 left_of_raised : {A : Type 0} (more : ℕ) (o : Outcome A) (a : A) (b : Budget) → raised_outcome more o ≡ done a b → more ≤ b.rest
 left_of_raised more (done v c) a b e =
     let rest : c.rest + more ≡ b.rest = ap (λ z. z.rest) (done_rest e) in

@@ -1,5 +1,5 @@
--- A closed predicate of counted calls holds of the check of one declaration, where it holds of evaluation.
--- It follows the text of the check.
+-- A closed predicate of counted calls holds of the check of one declaration, where it holds of evaluation. It follows
+-- the text of the check. The laws of budgets are had of the check by this alone.
 use Rattle.std.proofs.Common.{ℕ, ◌-◌, Option, Some, None, List, [], ◌∷◌, ◌++◌, take, drop}
 use Rattle.std.specs.Prelude.{option_and_then}
 use Rattle.cic_terms.specs.Tree.{TreeSort, Tree}

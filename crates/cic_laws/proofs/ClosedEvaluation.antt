@@ -1,5 +1,6 @@
--- A closed predicate of counted calls holds of a turn of evaluation where it holds of the calls one deeper,
--- and of conversion and subtyping where it holds of evaluation. It follows the text of each definition.
+-- A closed predicate of counted calls holds of a turn of evaluation where it holds of the calls one deeper, and of
+-- conversion and subtyping where it holds of evaluation. It follows the text of each definition. The laws of budgets
+-- rest on it.
 use Rattle.std.proofs.Common.{ℕ, zero, suc, ◌+◌, false, ◌&&◌, nat_eq, Option, Some, None, List, [], ◌∷◌, length}
 use Rattle.cic_terms.specs.Tree.{TreeSort, prop, set, typ, Former, LetF, CaseF, FixF, over, Tree, rel, node, Children, child, sort, prod, lam, let_in, app, const, case}
 use Rattle.cic_terms.specs.Lift.{lift_tree, subst_tree}

@@ -1,6 +1,6 @@
--- A closed predicate of counted calls holds of inference, of a check against a type and of the sort of a
--- type, where it holds of evaluation. It follows the text of each definition, and is by induction on what
--- is left of the depth.
+-- A closed predicate of counted calls holds of inference, of a check against a type and of the sort of a type, where
+-- it holds of evaluation. It follows the text of each definition, and is by induction on what is left of the depth.
+-- The laws of budgets rest on it.
 use Rattle.std.proofs.Common.{ℕ, zero, suc, ◌+◌, not, ◌&&◌, ◌||◌, nat_eq, List, [], ◌∷◌, ◌++◌, length, take, drop}
 use Rattle.std.specs.Prelude.{option_map}
 use Rattle.cic_terms.specs.Tree.{TreeSort, prop, set, typ, own, Shape, Tree, rel, Children, child, sort, prod, lam, let_in, app, const, ind, ctor, case, fix}

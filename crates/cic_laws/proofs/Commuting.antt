@@ -1,5 +1,6 @@
--- How two lifts, a lift and a substitution, and two substitutions at places are exchanged. Each law is an
--- equation at every variable, which the composition of renamings and substitutions carries to all terms.
+-- How two lifts, a lift and a substitution, and two substitutions at places are exchanged. Each law is an equation at
+-- every variable, which the composition of renamings and substitutions carries to all terms. The rules lift and
+-- substitute at places, so the laws of steps and of typing need these.
 use Rattle.std.proofs.Common.{◌≡◌, ℕ, ◌+◌, ◌-◌, ◌<◌, ◌≤◌, ◌⊎◌, inl, inr, refl, sym, ap, ◌∙◌, arith}
 use Rattle.std.proofs.lemmas.Bool.Decides.{nat_tests}
 use Rattle.std.proofs.lemmas.Bool.{cases_lt}

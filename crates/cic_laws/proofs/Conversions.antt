@@ -1,5 +1,6 @@
--- Conversion and subtyping go through each substitution of a kind. By induction on the derivation: a step
--- that vanished leaves the rest of the derivation, and sorts are untouched.
+-- Conversion and subtyping go through each substitution of a kind. By induction on the derivation: a step that
+-- vanished leaves the rest of the derivation, and sorts are untouched. Typing under a substitution needs it at the
+-- rule of conversion.
 use Rattle.std.proofs.Common.{ℕ, ◌∷◌, ap, inl, inr}
 use Rattle.cic_terms.specs.Tree.{over, Tree, Children}
 use Rattle.cic_rules.specs.Numbering.{Numbering}

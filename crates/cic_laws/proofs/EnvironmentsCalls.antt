@@ -1,5 +1,6 @@
--- Two counted calls that answer the same, and whose value has a property. Calls that are put together from
--- such calls are such calls. And what the lookups give, where what ids stand for names ids of a set alone.
+-- Two counted calls that answer the same, and whose value has a property. Calls that are put together from such calls
+-- are such calls. And what the lookups give, where what ids stand for names ids of a set alone. The check of a
+-- declaration is such a call over two environments that agree, since it is put together from these.
 use Rattle.std.proofs.Common.{◌≡◌, ℕ, Bool, true, false, if◌then◌else◌, Option, Some, None, List, [], ◌∷◌, refl, ap, ◌∙◌, subst}
 use Rattle.std.specs.Prelude.{option_map}
 use Rattle.cic_terms.specs.Tree.{Tree}
@@ -8,7 +9,8 @@ use Rattle.cic_rules.specs.Inductive.{Each}
 use Rattle.cic_rules.specs.Environment.{ConstructorDeclaration, TypeDeclaration, Block, Meaning, constant, whole_type, bare_type, constructor, element, constant_type_in, transparent_body_in, arity_in_block, arity_in, whole_block_in, constructor_in_type, constructor_in_block, constructor_in}
 use Rattle.cic_counted.specs.Outcome.{Budget, Outcome, done, stops, Stopped, Cause, deep, refused, Counted, follow, ◌>>=◌, ◌>>◌, give, stop, or_refuse, is_small, fitting, fitting_all}
 use Rattle.cic_counted.proofs.Taken.{done_value}
-use Rattle.cic_laws.proofs.EnvironmentsTerms.{Within, each_element, TreeIn, TreesIn}
+use Rattle.cic_laws.proofs.EnvironmentsTerms.{TreeIn, TreesIn}
+use Rattle.cic_laws.proofs.Formers.{Within, each_element}
 
 -- The property that every value has.
 abbrev pub Any : {A : Type 0} → A → Type 0

@@ -1,6 +1,7 @@
--- The check of one declaration answers the same over two environments that agree on a set of ids, where
--- the declaration names ids of the set alone and so does what these ids stand for. It follows the text of
--- the check. While constructors are checked the types of their block stand bare behind both environments.
+-- The check of one declaration answers the same over two environments that agree on a set of ids, where the
+-- declaration names ids of the set alone and so does what these ids stand for. It follows the text of the check. While
+-- constructors are checked the types of their block stand bare behind both environments. The law on what the check
+-- depends on is this, of the ids that a declaration reaches.
 use Rattle.std.proofs.Common.{◌≡◌, ℕ, ◌+◌, Bool, true, false, if◌then◌else◌, Option, Some, None, List, [], ◌∷◌, ◌++◌, take, drop, sym, ap, ◌∙◌, subst}
 use Rattle.std.specs.Prelude.{option_and_then}
 use Rattle.cic_terms.specs.Tree.{TreeSort, Tree}
@@ -13,10 +14,11 @@ use Rattle.cic_counted.specs.BlockTests.{shape_fault, positivity_fault}
 use Rattle.cic_counted.specs.Outcome.{bad_constructor, ◌>>=◌, give, or_refuse, refuse_for}
 use Rattle.cic_counted.specs.Inference.{Calls, calls_from}
 use Rattle.cic_counted.specs.Checking.{take_found, all_visible, shape_cause, positivity_cause, check_arities, argument_at_most, check_arguments, ending_sort, check_constructor, check_constructors, check_types, check_block, judge, answer_of, check_declaration}
-use Rattle.cic_laws.proofs.EnvironmentsTerms.{Within, each_taken, each_dropped, TreeIn, TreesIn, ContextIn, domains_in, conclusion_in, extend_in}
+use Rattle.cic_laws.proofs.EnvironmentsTerms.{TreeIn, TreesIn, ContextIn, extend_in, naming}
 use Rattle.cic_laws.proofs.EnvironmentsCalls.{Any, Alike, alike_itself, alike_bind, alike_then, MeaningIn}
 use Rattle.cic_laws.proofs.EnvironmentsTyping.{CallsAlike, alike_calls}
 use Rattle.cic_laws.proofs.EnvironmentsOrder.{meaning_joined}
+use Rattle.cic_laws.proofs.Formers.{Within, each_taken, each_dropped, domains_in, conclusion_in}
 
 module _ (S : GlobalId → Type 0) where
   abbrev pub TypeTermsIn : TypeDeclaration → Type 0
@@ -40,11 +42,11 @@ module _ (S : GlobalId → Type 0) where
 
     alike_constructor : (r : ℕ) (s : Option TreeSort) (k : ConstructorDeclaration) → TreeIn S k.type → Alike Any (check_constructor calls r s k) (check_constructor calls' r s k)
     alike_constructor r s k h =
-        let domains : TreesIn S (domains_of k.type) = domains_in S k.type h in
+        let domains : TreesIn S (domains_of k.type) = domains_in (naming S) k.type h in
         alike_bind (alike_itself (or_refuse s (bad_constructor k.id))) (λ s' _.
         alike_arguments (extend [] (take r (domains_of k.type))) s' (drop r (domains_of k.type)) (conclusion_of k.type)
         (extend_in S [] (take r (domains_of k.type)) tt (each_taken (TreeIn S) r (domains_of k.type) domains))
-        (each_dropped (TreeIn S) r (domains_of k.type) domains) (conclusion_in S k.type h))
+        (each_dropped (TreeIn S) r (domains_of k.type) domains) (conclusion_in (naming S) k.type h))
 
     alike_constructors : (r : ℕ) (s : Option TreeSort) (ks : List ConstructorDeclaration) → Each (λ k. TreeIn S k.type) ks → Alike Any (check_constructors calls r s ks) (check_constructors calls' r s ks)
     alike_constructors r s [] h = alike_itself (give tt)

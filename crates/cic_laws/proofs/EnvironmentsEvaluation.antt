@@ -1,6 +1,6 @@
--- Evaluation, conversion and subtyping answer the same over two environments that agree on a set of ids,
--- where the terms name ids of the set alone and so does what these ids stand for. It follows the text of
--- each definition, and is by induction on what is left of the depth.
+-- Evaluation, conversion and subtyping answer the same over two environments that agree on a set of ids, where the
+-- terms name ids of the set alone and so does what these ids stand for. It follows the text of each definition, and is
+-- by induction on what is left of the depth. Inference over two such environments rests on it.
 use Rattle.std.proofs.Common.{◌≡◌, ℕ, zero, suc, ◌+◌, Bool, true, false, if◌then◌else◌, ◌&&◌, nat_eq, Option, Some, None, List, ◌∷◌, length, drop, refl, ap}
 use Rattle.std.specs.Prelude.{option_and_then}
 use Rattle.cic_terms.specs.Tree.{Former, LetF, CaseF, FixF, over, Tree, rel, node, Children, child, sort, prod, lam, let_in, app, const, ctor, case, fix}
@@ -11,8 +11,9 @@ use Rattle.cic_rules.specs.Environment.{Environment, Context, meaning, transpare
 use Rattle.cic_rules.specs.Telescopes.{apply, head_of, arguments_of, abstractions, substitute_all, lift_domains, BranchParts, branch_at, Function, functions_of, function_types, unfolded}
 use Rattle.cic_counted.specs.Outcome.{Counted, spent, deep, stop, give, tick}
 use Rattle.cic_counted.specs.Evaluation.{Turn, answer, again, reduce, variable_turn, constant_turn, is_constructor, unfolded_at, unfolds, recursive_turn, fix_turn, application_turn, branch_result, selected, matched, match_turn, turn_of, goes_on, loop_of, whnf_at, differ, equal_sorts, sorts_at_most, same_places, convert_children, convert_each, fitting_body, convert_bodies, convert_functions, value_first, compare_nodes, compare, conv_at, below_or_equal, cumul_at}
-use Rattle.cic_laws.proofs.EnvironmentsTerms.{Within, each_element, each_dropped, TreeIn, PartsIn, TreesIn, ContextIn, FunctionIn, FunctionsIn, lift_in, subst_in, apply_in, head_in, arguments_in, abstractions_in, under_unknown_in, body_at_in, substitute_all_in, lift_domains_in, branch_in, functions_in, unfolded_in, function_types_in}
+use Rattle.cic_laws.proofs.EnvironmentsTerms.{TreeIn, PartsIn, TreesIn, ContextIn, FunctionIn, FunctionsIn, under_unknown_in, body_at_in, naming}
 use Rattle.cic_laws.proofs.EnvironmentsCalls.{Any, Alike, alike_itself, alike_give, alike_stop, alike_bind, alike_then, alike_if, alike_within, alike_to, alike_fitting, alike_fitting_all, MeaningIn, transparent_in}
+use Rattle.cic_laws.proofs.Formers.{Within, each_element, each_dropped, lift_in, subst_in, apply_in, head_in, arguments_in, abstractions_in, substitute_all_in, lift_domains_in, branch_in, functions_in, unfolded_in, function_types_in}
 
 within_if : {A : Type 0} (P : A → Type 0) (c : Bool) (o : Option A) → Within P o → Within P (if c then o else None)
 within_if P true o h = h
@@ -28,7 +29,7 @@ module _ (S : GlobalId → Type 0) where
 
   alike_variable : (o : Option Tree) (x : ℕ) → Within (TreeIn S) o → Alike TurnIn (variable_turn o x) (variable_turn o x)
   alike_variable None x h = alike_give TurnIn (answer (rel x)) tt
-  alike_variable (Some b) x h = alike_reduce (lift_tree 0 (x + 1) b) (lift_in S 0 (x + 1) b h)
+  alike_variable (Some b) x h = alike_reduce (lift_tree 0 (x + 1) b) (lift_in (naming S) 0 (x + 1) b h)
 
   alike_constant : (o : Option Tree) (c : GlobalId) → S c → Within (TreeIn S) o → Alike TurnIn (constant_turn o c) (constant_turn o c)
   alike_constant None c s h = alike_give TurnIn (answer (const c)) (s, tt)
@@ -38,7 +39,7 @@ module _ (S : GlobalId → Type 0) where
   alike_recursive f u v F hf hu hv hF =
       alike_if (is_constructor (head_of v))
       (alike_then (alike_itself tick) (alike_bind (alike_fitting S F hF) (λ F' k.
-      alike_give TurnIn (again (app (apply F' (arguments_of f)) v)) (tt, (apply_in S F' (arguments_of f) k (arguments_in S f hf), (hv, tt))))))
+      alike_give TurnIn (again (app (apply F' (arguments_of f)) v)) (tt, (apply_in (naming S) F' (arguments_of f) k (arguments_in (naming S) f hf), (hv, tt))))))
       (alike_give TurnIn (answer (app f u)) (tt, (hf, (hu, tt))))
 
   alike_match : (stuck : Tree) (o : Option Tree) → TreeIn S stuck → Within (TreeIn S) o → Alike TurnIn (match_turn stuck o) (match_turn stuck o)
@@ -47,27 +48,27 @@ module _ (S : GlobalId → Type 0) where
 
   unfolded_at_in : (count : ℕ) (fs : List Function) (o : Option Function) → FunctionsIn S fs → Within (FunctionIn S) o → Within (TreeIn S) (unfolded_at count fs o)
   unfolded_at_in count fs None h k = tt
-  unfolded_at_in count fs (Some f) h k = within_if (TreeIn S) (nat_eq count f.k) (Some (unfolded fs f)) (unfolded_in S fs f h k)
+  unfolded_at_in count fs (Some f) h k = within_if (TreeIn S) (nat_eq count f.k) (Some (unfolded fs f)) (unfolded_in (naming S) fs f h k)
 
   unfolds_which_in : (count which : ℕ) (o : Option (List Function)) → Within (FunctionsIn S) o → Within (TreeIn S) (option_and_then (λ fs. unfolded_at count fs (element fs which)) o)
   unfolds_which_in count which None h = tt
   unfolds_which_in count which (Some fs) h = unfolded_at_in count fs (element fs which) h (each_element (FunctionIn S) fs which h)
 
   unfolds_in : (count : ℕ) (t : Tree) → TreeIn S t → Within (TreeIn S) (unfolds count t)
-  unfolds_in count (fix which shapes parts) h = unfolds_which_in count which (functions_of shapes parts) (functions_in S shapes parts h.1)
+  unfolds_in count (fix which shapes parts) h = unfolds_which_in count which (functions_of shapes parts) (functions_in (naming S) shapes parts h.1)
   unfolds_in count t h = tt
 
   branch_result_in : (r : ℕ) (us : List Tree) (o : Option BranchParts) → TreesIn S us → Within (λ b. TreeIn S b.body) o → Within (TreeIn S) (branch_result r us o)
   branch_result_in r us None h k = tt
   branch_result_in r us (Some b) h k =
       within_if (TreeIn S) (nat_eq (length us) (r + b.binders)) (Some (substitute_all (drop r us) b.body))
-      (substitute_all_in S (drop r us) b.body (each_dropped (TreeIn S) r us h) k)
+      (substitute_all_in (naming S) (drop r us) b.body (each_dropped (TreeIn S) r us h) k)
 
   selected_in : (id : GlobalId) (branches : Children) (us : List Tree) (o : Option Constructor) → PartsIn S branches → TreesIn S us → Within (TreeIn S) (selected id branches us o)
   selected_in id branches us None h k = tt
   selected_in id branches us (Some c) h k =
       within_if (TreeIn S) (same_id c.owner id) (branch_result c.parameters us (branch_at branches c.place))
-      (branch_result_in c.parameters us (branch_at branches c.place) k (branch_in S branches c.place h))
+      (branch_result_in c.parameters us (branch_at branches c.place) k (branch_in (naming S) branches c.place h))
 
   matched_in : (E : Environment) (id : GlobalId) (branches : Children) (us : List Tree) (t : Tree) → PartsIn S branches → TreesIn S us → Within (TreeIn S) (matched E id branches us t)
   matched_in E id branches us (ctor c) h k = selected_in id branches us (constructor_of E c) h k
@@ -79,9 +80,9 @@ module _ (S : GlobalId → Type 0) where
     alike_fix f u (Some F) h k l = alike_bind (w u k) (λ v hv. alike_recursive f u v F h k hv l)
 
     alike_application : (f u : Tree) → TreeIn S f → TreeIn S u → Alike TurnIn (application_turn whnf f u) (application_turn whnf' f u)
-    alike_application (lam a b) u h k = alike_reduce (subst_tree 0 u b) (subst_in S 0 u b k h.1.1.0)
+    alike_application (lam a b) u h k = alike_reduce (subst_tree 0 u b) (subst_in (naming S) 0 u b k h.1.1.0)
     alike_application f u h k =
-        alike_fix f u (unfolds (length (arguments_of f)) (head_of f)) h k (unfolds_in (length (arguments_of f)) (head_of f) (head_in S f h))
+        alike_fix f u (unfolds (length (arguments_of f)) (head_of f)) h k (unfolds_in (length (arguments_of f)) (head_of f) (head_in (naming S) f h))
 
   alike_goes_on : (on on' : Tree → Counted Tree) → ((t : Tree) → TreeIn S t → Alike (TreeIn S) (on t) (on' t)) → (turn : Turn) → TurnIn turn → Alike (TreeIn S) (goes_on on turn) (goes_on on' turn)
   alike_goes_on on on' p (answer t) h = alike_give (TreeIn S) t h
@@ -89,8 +90,8 @@ module _ (S : GlobalId → Type 0) where
 
   pub alike_fitting_body : (all : ℕ) (f : Function) → FunctionIn S f → Alike (TreeIn S) (fitting_body all f) (fitting_body all f)
   alike_fitting_body all f h =
-      alike_bind (alike_fitting_all S (lift_domains 0 all f.domains) (lift_domains_in S 0 all f.domains h.0)) (λ as_ k.
-      alike_give (TreeIn S) (abstractions as_ f.body) (abstractions_in S as_ f.body k h.2))
+      alike_bind (alike_fitting_all S (lift_domains 0 all f.domains) (lift_domains_in (naming S) 0 all f.domains h.0)) (λ as_ k.
+      alike_give (TreeIn S) (abstractions as_ f.body) (abstractions_in (naming S) as_ f.body k h.2))
 
   value_first_in : (ks : Children) → PartsIn S ks → PartsIn S (value_first ks)
   value_first_in (child b p (child c v branches)) h = (h.1.0, (h.0, h.1.1))
@@ -114,7 +115,7 @@ module _ (S : GlobalId → Type 0) where
 
     alike_functions : (G : Context) (a b : Tree) (o o' : Option (List Function)) → ContextIn S G → Within (FunctionsIn S) o → Within (FunctionsIn S) o' → Alike Any (convert_functions conv G a b o o') (convert_functions conv' G a b o o')
     alike_functions G a b (Some fs) (Some gs) g h k =
-        alike_then (alike_each G (function_types fs) (function_types gs) g (function_types_in S fs h) (function_types_in S gs k))
+        alike_then (alike_each G (function_types fs) (function_types gs) g (function_types_in (naming S) fs h) (function_types_in (naming S) gs k))
         (alike_bodies (under_unknown (length fs) G) (length fs) fs gs (under_unknown_in S (length fs) G g) h k)
     alike_functions G a b _ _ g h k = alike_itself (differ G a b)
 
@@ -124,7 +125,7 @@ module _ (S : GlobalId → Type 0) where
         (alike_itself (differ G (node (CaseF c) ks) (node (CaseF d) ls)))
     alike_nodes G (FixF i s) (FixF j s') ks ls g h k =
         alike_if (nat_eq i j && same_shapes s s')
-        (alike_functions G (node (FixF i s) ks) (node (FixF j s') ls) (functions_of s ks) (functions_of s' ls) g (functions_in S s ks h) (functions_in S s' ls k))
+        (alike_functions G (node (FixF i s) ks) (node (FixF j s') ls) (functions_of s ks) (functions_of s' ls) g (functions_in (naming S) s ks h) (functions_in (naming S) s' ls k))
         (alike_itself (differ G (node (FixF i s) ks) (node (FixF j s') ls)))
     alike_nodes G LetF f' ks ls g h k = alike_itself (differ G (node LetF ks) (node f' ls))
     alike_nodes G f f' ks ls g h k =
@@ -154,13 +155,13 @@ module _ (S : GlobalId → Type 0) (E E' : Environment) (e : (id : GlobalId) →
     alike_turn G (const c) g h =
         alike_to (ap (λ m. constant_turn (transparent_body_in m) c) (e c h.0))
         (alike_constant S (transparent_body E c) c h.0 (transparent_in S (meaning E c) (closed c h.0)))
-    alike_turn G (let_in t a u) g h = alike_reduce S (subst_tree 0 t u) (subst_in S 0 t u h.1.0 h.1.1.1.0)
+    alike_turn G (let_in t a u) g h = alike_reduce S (subst_tree 0 t u) (subst_in (naming S) 0 t u h.1.0 h.1.1.1.0)
     alike_turn G (app f u) g h = alike_bind (w f h.1.0) (λ v k. alike_application S whnf whnf' w v u k h.1.1.0)
     alike_turn G (case id n p c branches) g h =
         alike_bind (w c h.1.1.0) (λ v k.
-        alike_to (ap (match_turn (case id n p v branches)) (matched_same id branches (arguments_of v) (head_of v) (head_in S v k)))
+        alike_to (ap (match_turn (case id n p v branches)) (matched_same id branches (arguments_of v) (head_of v) (head_in (naming S) v k)))
         (alike_match S (case id n p v branches) (matched E id branches (arguments_of v) (head_of v)) (h.0, (h.1.0, (k, h.1.1.1)))
-        (matched_in S E id branches (arguments_of v) (head_of v) h.1.1.1 (arguments_in S v k))))
+        (matched_in S E id branches (arguments_of v) (head_of v) h.1.1.1 (arguments_in (naming S) v k))))
     alike_turn G t g h = alike_give (TurnIn S) (answer t) h
 
     alike_loop : (n : ℕ) (G : Context) (t : Tree) → ContextIn S G → TreeIn S t → Alike (TreeIn S) (loop_of n whnf E G t) (loop_of n whnf' E' G t)

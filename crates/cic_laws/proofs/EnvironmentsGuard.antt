@@ -1,5 +1,5 @@
--- The test of the guard reads the marks of constructors at the ids of its terms alone: where two
--- environments agree there, it has the same answer over both.
+-- The test of the guard reads the marks of constructors at the ids of its terms alone: where two environments agree
+-- there, it has the same answer over both. Inference of a Fix over two environments rests on it.
 use Rattle.std.proofs.Common.{◌≡◌, ℕ, ◌+◌, Bool, true, false, if◌then◌else◌, ◌&&◌, ◌||◌, Option, Some, None, List, [], ◌∷◌, ◌++◌, length, refl, sym, ap, ap₂, ◌∙◌}
 use Rattle.std.specs.Prelude.{option_map, replicate}
 use Rattle.cic_terms.specs.Tree.{Shape, over, Tree, rel, node, Children, no_child, child, lam, app, ind, case, fix}
@@ -8,7 +8,8 @@ use Rattle.cic_rules.specs.Environment.{Environment, whole_block_in, element, or
 use Rattle.cic_rules.specs.Telescopes.{Function}
 use Rattle.cic_rules.specs.Guard.{Mark, plain, function, Marks, under_mark, under_marks, under_plain, marks_in_block, recursive_marks, body_marks, recursive_places}
 use Rattle.cic_counted.specs.GuardTest.{branch_marks, is_recursive_variable, is_smaller, are_smaller, Walk, passed, failed, then_walk, is_smaller_argument, is_good_call, occurrence, body_flags, walk, walk_children, walk_branches, walk_chosen, failed_call, walk_fault, head_of_domain, Unguarded, functions_fault, guard_fault}
-use Rattle.cic_laws.proofs.EnvironmentsTerms.{Within, each_element, TreeIn, PartsIn, TreesIn, FunctionsIn, head_in}
+use Rattle.cic_laws.proofs.EnvironmentsTerms.{TreeIn, PartsIn, TreesIn, FunctionsIn, naming}
+use Rattle.cic_laws.proofs.Formers.{Within, each_element, head_in}
 
 module _ (S : GlobalId → Type 0) (r r' : GlobalId → ℕ → Option (List Mark)) (e : (id : GlobalId) → S id → (place : ℕ) → r id place ≡ r' id place) (places : List ℕ) where
   variable_same : (marks : Marks) (t : Tree) → is_recursive_variable r places marks t ≡ is_recursive_variable r' places marks t
@@ -127,7 +128,7 @@ module _ (S : GlobalId → Type 0) (E E' : Environment) (e : (id : GlobalId) →
 
   domain_head_in : (o : Option Tree) → Within (TreeIn S) o → TreeIn S (head_of_domain o)
   domain_head_in None h = tt
-  domain_head_in (Some a) h = head_in S a h
+  domain_head_in (Some a) h = head_in (naming S) a h
 
   functions_same : (places : List ℕ) (all f : ℕ) (gs : List Function) → FunctionsIn S gs → functions_fault E places all f gs ≡ functions_fault E' places all f gs
   functions_same places all f [] h = refl

@@ -1,16 +1,17 @@
--- What an id stands for in an environment is left as it is by taking opaque bodies away, by items that do
--- not declare it, and, where no id is declared twice, by another order of the items.
+-- What an id stands for in an environment is left as it is by taking opaque bodies away, by items that do not declare
+-- it, and, where no id is declared twice, by another order of the items. The laws that the check sees no opaque body,
+-- no declaration that is not reached and no order rest on it.
 use Rattle.std.proofs.Common.{◌≡◌, ◌⊎◌, inl, inr, ℕ, zero, suc, ◌+◌, Bool, true, false, if◌then◌else◌, Option, Some, None, List, [], ◌∷◌, ◌++◌, refl, sym, ap, ap₂, ◌∙◌, subst, arith, Contains}
-use Rattle.std.specs.Prelude.{IsPermutation, nat_eq, ◌&&◌}
+use Rattle.std.specs.Prelude.{IsPermutation}
 use Rattle.std.proofs.lemmas.List.Elements.{Contains-append_left, Contains-append_right}
 use Rattle.std.proofs.lemmas.List.Sorted.{Contains-permutation, IsPermutation-sym}
-use Rattle.std.specs.Cmp.Lexicographic.{pointwise, bytes_decides}
-use Rattle.std.specs.Cmp.{first_so, second_so}
 use Rattle.cic_terms.specs.declared.name.GlobalId.{GlobalId}
-use Rattle.cic_rules.specs.Sameness.{same_list, same_id}
+use Rattle.cic_rules.specs.Sameness.{same_id}
 use Rattle.cic_rules.specs.Environment.{Environment, axiom_of, transparent, opaque, inductive, Block, TypeDeclaration, ConstructorDeclaration, Item, declared, bare, constructor_ids, type_ids, bare_ids, item_ids, environment_ids, Meaning, whole_type, bare_type, constructor, or_else, where_same, constructor_meaning, type_meaning, bare_meaning, item_meaning, meaning}
 use Rattle.cic_rules.specs.Formed.{Distinct}
 use Rattle.cic_laws.specs.Environments.{without_opaque_body, without_opaque_bodies}
+use Rattle.cic_laws.proofs.EvaluationReadings.{some_inj, some_is_not_none}
+use Rattle.cic_counted.proofs.Decided.{same_id-is}
 
 or_else_associates : {A : Type 0} (a b c : Option A) → or_else (or_else a b) c ≡ or_else a (or_else b c)
 or_else_associates None b c = refl
@@ -32,50 +33,41 @@ pub meaning_without_opaque_bodies : (E : Environment) (id : GlobalId) → meanin
 meaning_without_opaque_bodies [] id = refl
 meaning_without_opaque_bodies (item ∷ E) id = ap₂ or_else (item_without_opaque_body item id) (meaning_without_opaque_bodies E id)
 
-same_bytes-pointwise : (xs ys : List ℕ) → same_list nat_eq xs ys ≡ pointwise nat_eq xs ys
-same_bytes-pointwise [] [] = refl
-same_bytes-pointwise [] (y ∷ ys) = refl
-same_bytes-pointwise (x ∷ xs) [] = refl
-same_bytes-pointwise (x ∷ xs) (y ∷ ys) = ap (λ b. nat_eq x y && b) (same_bytes-pointwise xs ys)
-
-same_bytes-true : (xs ys : List ℕ) → same_list nat_eq xs ys ≡ true → xs ≡ ys
-same_bytes-true xs ys h = (bytes_decides xs ys).0 (sym (same_bytes-pointwise xs ys) ∙ h)
-
-same_id-true : (a b : GlobalId) → same_id a b ≡ true → a ≡ b
-same_id-true a b h =
-    let libs = same_bytes-true a.lib b.lib (first_so (same_list nat_eq a.lib b.lib) (same_list nat_eq a.name b.name) h) in
-    let names = same_bytes-true a.name b.name (second_so (same_list nat_eq a.lib b.lib) (same_list nat_eq a.name b.name) h) in
-    λ i. record { lib = libs i; name = names i }
-
+-- Members of a list
 pub contains_first : {X : Type 0} (x y : X) (xs : List X) → x ≡ y → Contains (x ∷ xs) y
 contains_first x y xs e = (0, omega arith, e)
 
 pub contains_rest : {X : Type 0} (x y : X) (xs : List X) → Contains xs y → Contains (x ∷ xs) y
 contains_rest x y xs h = let lt = h.1 in (suc h.0, omega (arith, lt), h.2)
 
-contains_cases : {X : Type 0} (x y : X) (xs : List X) → Contains (x ∷ xs) y → (x ≡ y) ⊎ Contains xs y
+pub contains_cases : {X : Type 0} (x y : X) (xs : List X) → Contains (x ∷ xs) y → (x ≡ y) ⊎ Contains xs y
 contains_cases x y xs (zero, lt, e) = inl e
 contains_cases x y xs (suc k, lt, e) = inr (k, omega (arith, lt), e)
 
-contains_none : {X : Type 0} (y : X) → Contains [] y → ⊥
+pub contains_none : {X : Type 0} (y : X) → Contains [] y → ⊥
 contains_none y (k, lt, e) = omega (arith, lt)
 
-or_else_cases : {A : Type 0} (a b : Option A) (m : A) → or_else a b ≡ Some m → (a ≡ Some m) ⊎ (b ≡ Some m)
+-- Answers of a lookup
+pub or_else_cases : {A : Type 0} (a b : Option A) (m : A) → or_else a b ≡ Some m → (a ≡ Some m) ⊎ (b ≡ Some m)
 or_else_cases None b m e = inr e
 or_else_cases (Some x) b m e = inl e
 
-same_where : (test : Bool) (m n : Meaning) → (if test then Some m else None) ≡ Some n → test ≡ true
-same_where true m n e = refl
-same_where false m n e = cc
+pub or_else_none : {A : Type 0} (a b : Option A) → or_else a b ≡ None → (a ≡ None) × (b ≡ None)
+or_else_none None b e = (refl, e)
+or_else_none (Some x) b e = some_is_not_none (sym e)
 
-where_same_found : (other id : GlobalId) (m n : Meaning) → where_same other id m ≡ Some n → other ≡ id
-where_same_found other id m n e = same_id-true other id (same_where (same_id other id) m n e)
+same_says : (test : Bool) (m n : Meaning) → (if test then Some m else None) ≡ Some n → (test ≡ true) × (m ≡ n)
+same_says true m n e = (refl, some_inj e)
+same_says false m n e = some_is_not_none e
+
+pub where_same_says : (other id : GlobalId) (m n : Meaning) → where_same other id m ≡ Some n → (other ≡ id) × (m ≡ n)
+where_same_says other id m n e = let p = same_says (same_id other id) m n e in (same_id-is other id p.0, p.1)
 
 constructor_declared : (block : Block) (index place : ℕ) (cs : List ConstructorDeclaration) (id : GlobalId) (m : Meaning) → constructor_meaning block index place cs id ≡ Some m → Contains (constructor_ids cs) id
 constructor_declared block index place [] id m e = cc
 constructor_declared block index place (c ∷ cs) id m e =
     elim (or_else_cases (where_same c.id id (constructor block index place)) (constructor_meaning block index (place + 1) cs id) m e) [
-      | inl h ↦ contains_first c.id id (constructor_ids cs) (where_same_found c.id id (constructor block index place) m h)
+      | inl h ↦ contains_first c.id id (constructor_ids cs) (where_same_says c.id id (constructor block index place) m h).0
       | inr h ↦ contains_rest c.id id (constructor_ids cs) (constructor_declared block index (place + 1) cs id m h)
     ]
 
@@ -85,7 +77,7 @@ type_declared block index (t ∷ ts) id m e =
     let own = constructor_meaning block index 0 t.constructors id in
     let further = type_meaning block (index + 1) ts id in
     elim (or_else_cases (where_same t.id id (whole_type block index)) (or_else own further) m e) [
-      | inl h ↦ contains_first t.id id (constructor_ids t.constructors ++ type_ids ts) (where_same_found t.id id (whole_type block index) m h)
+      | inl h ↦ contains_first t.id id (constructor_ids t.constructors ++ type_ids ts) (where_same_says t.id id (whole_type block index) m h).0
       | inr h ↦ contains_rest t.id id (constructor_ids t.constructors ++ type_ids ts) (elim (or_else_cases own further m h) [
         | inl k ↦ Contains-append_left (constructor_ids t.constructors) (type_ids ts) id (constructor_declared block index 0 t.constructors id m k)
         | inr k ↦ Contains-append_right (constructor_ids t.constructors) (type_ids ts) id (type_declared block (index + 1) ts id m k)
@@ -96,15 +88,15 @@ bare_declared : (block : Block) (index : ℕ) (ts : List TypeDeclaration) (id : 
 bare_declared block index [] id m e = cc
 bare_declared block index (t ∷ ts) id m e =
     elim (or_else_cases (where_same t.id id (bare_type block index)) (bare_meaning block (index + 1) ts id) m e) [
-      | inl h ↦ contains_first t.id id (bare_ids ts) (where_same_found t.id id (bare_type block index) m h)
+      | inl h ↦ contains_first t.id id (bare_ids ts) (where_same_says t.id id (bare_type block index) m h).0
       | inr h ↦ contains_rest t.id id (bare_ids ts) (bare_declared block (index + 1) ts id m h)
     ]
 
 -- An item declares the ids that it gives a meaning.
 item_declares : (item : Item) (id : GlobalId) (m : Meaning) → item_meaning item id ≡ Some m → Contains (item_ids item) id
-item_declares (declared (axiom_of other type)) id m e = contains_first other id [] (where_same_found other id _ m e)
-item_declares (declared (transparent other type body)) id m e = contains_first other id [] (where_same_found other id _ m e)
-item_declares (declared (opaque other type body)) id m e = contains_first other id [] (where_same_found other id _ m e)
+item_declares (declared (axiom_of other type)) id m e = contains_first other id [] (where_same_says other id _ m e).0
+item_declares (declared (transparent other type body)) id m e = contains_first other id [] (where_same_says other id _ m e).0
+item_declares (declared (opaque other type body)) id m e = contains_first other id [] (where_same_says other id _ m e).0
 item_declares (declared (inductive block)) id m e = type_declared block 0 block.types id m e
 item_declares (bare block) id m e = bare_declared block 0 block.types id m e
 
@@ -116,17 +108,24 @@ item_within (first ∷ E) item id h k =
       | inr r ↦ Contains-append_right (item_ids first) (environment_ids E) id (item_within E item id r k)
     ]
 
-distinct_right : (xs ys : List GlobalId) → Distinct (xs ++ ys) → Distinct ys
-distinct_right [] ys h = h
-distinct_right (x ∷ xs) ys h = distinct_right xs ys h.1
+-- Distinct ids in a front, in the rest, and none in both
+pub record DistinctParts (xs ys : List GlobalId) : Type 0 where
+  pub front : Distinct xs
+  pub rest : Distinct ys
+  pub apart : (id : GlobalId) → Contains xs id → Contains ys id → ⊥
 
-distinct_apart : (xs ys : List GlobalId) (id : GlobalId) → Distinct (xs ++ ys) → Contains xs id → Contains ys id → ⊥
-distinct_apart [] ys id h a b = contains_none id a
-distinct_apart (x ∷ xs) ys id h a b =
-    elim (contains_cases x id xs a) [
-      | inl e ↦ h.0 (subst (Contains (xs ++ ys)) (sym e) (Contains-append_right xs ys id b))
-      | inr r ↦ distinct_apart xs ys id h.1 r b
-    ]
+pub distinct_parts : (xs ys : List GlobalId) → Distinct (xs ++ ys) → DistinctParts xs ys
+distinct_parts [] ys h = record { front = tt; rest = h; apart = λ id a b. contains_none id a }
+distinct_parts (x ∷ xs) ys h =
+    let r = distinct_parts xs ys h.1 in
+    record {
+      front = (λ k. h.0 (Contains-append_left xs ys x k), r.front);
+      rest = r.rest;
+      apart = λ id a b. elim (contains_cases x id xs a) [
+        | inl e ↦ h.0 (subst (Contains (xs ++ ys)) (sym e) (Contains-append_right xs ys id b))
+        | inr k ↦ r.apart id k b
+      ];
+    }
 
 -- An id stands for what an item makes of it, and for nothing else where no id is declared twice.
 found_in : (E : Environment) (id : GlobalId) (m : Meaning) → meaning E id ≡ Some m → (item : Item) × Contains E item × (item_meaning item id ≡ Some m)
@@ -142,17 +141,13 @@ stands_for [] item id m d h e = absurd (contains_none item h)
 stands_for (first ∷ E) item id m d h e =
     elim (contains_cases first item E h) [
       | inl q ↦ ap (λ o. or_else o (meaning E id)) (ap (λ z. item_meaning z id) q ∙ e)
-      | inr r ↦ later (item_meaning first id) refl r (stands_for E item id m (distinct_right (item_ids first) (environment_ids E) d) r e)
+      | inr r ↦ later (item_meaning first id) refl r (stands_for E item id m (distinct_parts (item_ids first) (environment_ids E) d).rest r e)
     ]
   where
     later : (o : Option Meaning) → item_meaning first id ≡ o → Contains E item → meaning E id ≡ Some m → or_else (item_meaning first id) (meaning E id) ≡ Some m
     later None q r found = ap (λ o. or_else o (meaning E id)) q ∙ found
     later (Some n) q r found =
-        absurd (distinct_apart (item_ids first) (environment_ids E) id d (item_declares first id n q) (item_within E item id r (item_declares item id m e)))
-
-or_else_none : {A : Type 0} (a b : Option A) → or_else a b ≡ None → (a ≡ None) × (b ≡ None)
-or_else_none None b e = (refl, e)
-or_else_none (Some x) b e = cc
+        absurd ((distinct_parts (item_ids first) (environment_ids E) d).apart id (item_declares first id n q) (item_within E item id r (item_declares item id m e)))
 
 some_found : (E : Environment) (item : Item) (id : GlobalId) (m : Meaning) → Contains E item → item_meaning item id ≡ Some m → meaning E id ≡ None → ⊥
 some_found [] item id m h e n = contains_none item h
@@ -178,10 +173,14 @@ meaning_in_any_order E E' p d id = by_answer (meaning E' id) refl (meaning E id)
         let f = found_in E id m r in
         absurd (some_found E' f.0 id m (Contains-permutation E E' f.0 p f.1) f.2 q)
 
--- Items that do not declare an id leave what it stands for.
+-- An environment declares each id that stands for something, and items that do not declare an id leave what it
+-- stands for.
+pub meaning_declares : (E : Environment) (id : GlobalId) (m : Meaning) → meaning E id ≡ Some m → Contains (environment_ids E) id
+meaning_declares E id m e = let f = found_in E id m e in item_within E f.0 id f.1 (item_declares f.0 id m f.2)
+
 undeclared : (E : Environment) (id : GlobalId) → ¬ Contains (environment_ids E) id → (o : Option Meaning) → meaning E id ≡ o → meaning E id ≡ None
 undeclared E id n None q = q
-undeclared E id n (Some m) q = let f = found_in E id m q in absurd (n (item_within E f.0 id f.1 (item_declares f.0 id m f.2)))
+undeclared E id n (Some m) q = absurd (n (meaning_declares E id m q))
 
 pub meaning_with_more : (before more after : Environment) (id : GlobalId) → ¬ Contains (environment_ids more) id → meaning (before ++ after) id ≡ meaning (before ++ (more ++ after)) id
 meaning_with_more before more after id n =

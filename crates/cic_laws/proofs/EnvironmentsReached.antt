@@ -11,11 +11,12 @@ use Rattle.cic_rules.specs.Environment.{Environment, Declaration, axiom_of, tran
 use Rattle.cic_rules.specs.Formed.{block_terms, declaration_terms, Distinct}
 use Rattle.cic_counted.specs.Checking.{check_declaration}
 use Rattle.cic_laws.specs.Environments.{meaning_terms, meaning_ids, Reached, in_its_terms, in_terms, beside, without_opaque_bodies}
-use Rattle.cic_laws.proofs.EnvironmentsTerms.{Within, FormerIn, TreeIn, PartsIn}
+use Rattle.cic_laws.proofs.EnvironmentsTerms.{FormerIn, TreeIn, PartsIn}
 use Rattle.cic_laws.proofs.EnvironmentsCalls.{ConstructorIn, TypeIn, MeaningIn}
 use Rattle.cic_laws.proofs.EnvironmentsOrder.{contains_first, contains_rest, meaning_without_opaque_bodies, meaning_in_any_order, meaning_with_more}
 use Rattle.std.specs.Prelude.{IsPermutation}
 use Rattle.cic_laws.proofs.EnvironmentsChecking.{TypeTermsIn, DeclarationIn, check_over_agreeing}
+use Rattle.cic_laws.proofs.Formers.{Within}
 
 -- A term names ids of a set alone where it mentions no other.
 module _ (S : GlobalId → Type 0) where

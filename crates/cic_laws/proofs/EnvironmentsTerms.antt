@@ -1,42 +1,16 @@
--- Terms, contexts and blocks whose ids are all in a set. Lifting, substitution and what is taken off a
--- term, or put together from terms, bring no other id.
-use Rattle.std.proofs.Common.{ℕ, zero, suc, ◌+◌, ◌-◌, Bool, true, false, if◌then◌else◌, Option, Some, None, List, [], ◌∷◌, ◌++◌, length, take, drop}
-use Rattle.std.specs.Prelude.{ltb, eqb}
-use Rattle.cic_terms.specs.Tree.{Shape, Former, ConstF, IndF, CtorF, CaseF, many, over, Tree, rel, node, Children, no_child, child, prod, app, join}
-use Rattle.cic_terms.specs.Lift.{lift_tree, lift_children, subst_rel, subst_tree, subst_children}
+-- Terms, contexts and blocks whose ids are all in a set. They are terms each of whose formers names ids of the set
+-- alone, so what keeps to the formers of its terms keeps to the set.
+use Rattle.std.proofs.Common.{ℕ, zero, suc, Option, Some, None, List, [], ◌∷◌}
+use Rattle.cic_terms.specs.Tree.{Former, ConstF, IndF, CtorF, CaseF, Tree, Children}
 use Rattle.cic_terms.specs.declared.name.GlobalId.{GlobalId}
-use Rattle.cic_rules.specs.Sameness.{same_children}
 use Rattle.cic_rules.specs.Inductive.{Each}
 use Rattle.cic_rules.specs.Environment.{Context, Entry, assumed, element, entry_type, entry_body, type_at, body_at, under_unknown}
-use Rattle.cic_rules.specs.Telescopes.{apply, head_of, arguments_of, products, abstractions, domains_of, conclusion_of, extend, substitute_all, variables, lift_all, lift_domains, codomain_at, instantiate, branch_at, Function, domain_parts, function_parts, trees_of, tree_at, split_functions, functions_of, function_type, function_types, full_body, each_fixpoint, unfolded}
-
--- What an option has, if anything, has a property.
-abbrev pub Within : {A : Type 0} → (A → Type 0) → Option A → Type 0
-Within P None = Unit {0}
-Within P (Some a) = P a
-
-module _ {A : Type 0} (P : A → Type 0) where
-  pub each_joined : (xs ys : List A) → Each P xs → Each P ys → Each P (xs ++ ys)
-  each_joined [] ys h k = k
-  each_joined (x ∷ xs) ys h k = (h.0, each_joined xs ys h.1 k)
-
-  pub each_taken : (n : ℕ) (xs : List A) → Each P xs → Each P (take n xs)
-  each_taken zero xs h = tt
-  each_taken (suc n) [] h = tt
-  each_taken (suc n) (x ∷ xs) h = (h.0, each_taken n xs h.1)
-
-  pub each_dropped : (n : ℕ) (xs : List A) → Each P xs → Each P (drop n xs)
-  each_dropped zero xs h = h
-  each_dropped (suc n) [] h = tt
-  each_dropped (suc n) (x ∷ xs) h = each_dropped n xs h.1
-
-  pub each_element : (xs : List A) (i : ℕ) → Each P xs → Within P (element xs i)
-  each_element [] i h = tt
-  each_element (x ∷ xs) zero h = h.0
-  each_element (x ∷ xs) (suc i) h = each_element xs i h.1
+use Rattle.cic_rules.specs.Telescopes.{extend, Function}
+use Rattle.cic_laws.proofs.Formers.{Within, each_element, Allowed, FunctionOf, FunctionsOf}
+use Rattle.cic_laws.specs.Formers.{EachFormer, EachFormerOfParts}
 
 module _ (S : GlobalId → Type 0) where
-  -- All ids of a former, a term, terms, an entry, a context and functions are in the set.
+  -- All ids of a former are in the set.
   abbrev pub FormerIn : Former → Type 0
   FormerIn (ConstF id) = S id
   FormerIn (IndF id) = S id
@@ -44,14 +18,16 @@ module _ (S : GlobalId → Type 0) where
   FormerIn (CaseF id) = S id
   FormerIn f = Unit {0}
 
-  abbrev mutual
-    pub TreeIn : Tree → Type 0
-    TreeIn (rel x) = Unit {0}
-    TreeIn (node f ks) = FormerIn f × PartsIn ks
+  -- The formers that name ids of the set alone.
+  abbrev pub naming : Allowed
+  naming = record { holds = FormerIn; products = tt; abstractions = tt; applications = tt; fixpoints = λ which shapes. tt }
 
-    pub PartsIn : Children → Type 0
-    PartsIn no_child = Unit {0}
-    PartsIn (child b t ks) = TreeIn t × PartsIn ks
+  -- So all ids of a term, terms, an entry, a context and functions.
+  abbrev pub TreeIn : Tree → Type 0
+  TreeIn = EachFormer FormerIn
+
+  abbrev pub PartsIn : Children → Type 0
+  PartsIn = EachFormerOfParts FormerIn
 
   abbrev pub TreesIn : List Tree → Type 0
   TreesIn = Each TreeIn
@@ -63,65 +39,10 @@ module _ (S : GlobalId → Type 0) where
   ContextIn = Each EntryIn
 
   abbrev pub FunctionIn : Function → Type 0
-  FunctionIn f = TreesIn f.domains × TreeIn f.codomain × TreeIn f.body
+  FunctionIn = FunctionOf naming
 
   abbrev pub FunctionsIn : List Function → Type 0
-  FunctionsIn = Each FunctionIn
-
-  mutual
-    pub lift_in : (from by : ℕ) (t : Tree) → TreeIn t → TreeIn (lift_tree from by t)
-    lift_in from by (rel n) h = tt
-    lift_in from by (node f ks) h = (h.0, lift_parts_in from by ks h.1)
-
-    lift_parts_in : (from by : ℕ) (ks : Children) → PartsIn ks → PartsIn (lift_children from by ks)
-    lift_parts_in from by no_child h = tt
-    lift_parts_in from by (child b t ks) h = (lift_in (over b from) by t h.0, lift_parts_in from by ks h.1)
-
-  chosen_in : (c : Bool) (t u : Tree) → TreeIn t → TreeIn u → TreeIn (if c then t else u)
-  chosen_in true t u h k = h
-  chosen_in false t u h k = k
-
-  subst_rel_in : (at : ℕ) (u : Tree) (n : ℕ) → TreeIn u → TreeIn (subst_rel at u n)
-  subst_rel_in at u n h =
-      chosen_in (ltb n at) (rel n) (if eqb n at then lift_tree 0 at u else rel (n - 1)) tt
-      (chosen_in (eqb n at) (lift_tree 0 at u) (rel (n - 1)) (lift_in 0 at u h) tt)
-
-  mutual
-    pub subst_in : (at : ℕ) (u t : Tree) → TreeIn u → TreeIn t → TreeIn (subst_tree at u t)
-    subst_in at u (rel n) k h = subst_rel_in at u n k
-    subst_in at u (node f ks) k h = (h.0, subst_parts_in at u ks k h.1)
-
-    subst_parts_in : (at : ℕ) (u : Tree) (ks : Children) → TreeIn u → PartsIn ks → PartsIn (subst_children at u ks)
-    subst_parts_in at u no_child k h = tt
-    subst_parts_in at u (child b t ks) k h = (subst_in (over b at) u t k h.0, subst_parts_in at u ks k h.1)
-
-  pub apply_in : (f : Tree) (us : List Tree) → TreeIn f → TreesIn us → TreeIn (apply f us)
-  apply_in f [] h k = h
-  apply_in f (u ∷ us) h k = apply_in (app f u) us (tt, (h, (k.0, tt))) k.1
-
-  pub head_in : (t : Tree) → TreeIn t → TreeIn (head_of t)
-  head_in (app f u) h = head_in f h.1.0
-  head_in t h = h
-
-  pub arguments_in : (t : Tree) → TreeIn t → TreesIn (arguments_of t)
-  arguments_in (app f u) h = each_joined TreeIn (arguments_of f) (u ∷ []) (arguments_in f h.1.0) (h.1.1.0, tt)
-  arguments_in t h = tt
-
-  pub products_in : (as_ : List Tree) (t : Tree) → TreesIn as_ → TreeIn t → TreeIn (products as_ t)
-  products_in [] t h k = k
-  products_in (a ∷ as_) t h k = (tt, (h.0, (products_in as_ t h.1 k, tt)))
-
-  pub abstractions_in : (as_ : List Tree) (t : Tree) → TreesIn as_ → TreeIn t → TreeIn (abstractions as_ t)
-  abstractions_in [] t h k = k
-  abstractions_in (a ∷ as_) t h k = (tt, (h.0, (abstractions_in as_ t h.1 k, tt)))
-
-  pub domains_in : (t : Tree) → TreeIn t → TreesIn (domains_of t)
-  domains_in (prod a b) h = (h.1.0, domains_in b h.1.1.0)
-  domains_in t h = tt
-
-  pub conclusion_in : (t : Tree) → TreeIn t → TreeIn (conclusion_of t)
-  conclusion_in (prod a b) h = conclusion_in b h.1.1.0
-  conclusion_in t h = h
+  FunctionsIn = FunctionsOf naming
 
   pub extend_in : (G : Context) (as_ : List Tree) → ContextIn G → TreesIn as_ → ContextIn (extend G as_)
   extend_in G [] h k = h
@@ -144,90 +65,3 @@ module _ (S : GlobalId → Type 0) where
 
   pub body_at_in : (G : Context) (x : ℕ) → ContextIn G → Within TreeIn (body_at G x)
   body_at_in G x h = entry_body_in (element G x) (each_element EntryIn G x h)
-
-  pub substitute_all_in : (us : List Tree) (t : Tree) → TreesIn us → TreeIn t → TreeIn (substitute_all us t)
-  substitute_all_in [] t k h = h
-  substitute_all_in (u ∷ us) t k h = substitute_all_in us (subst_tree (length us) u t) k.1 (subst_in (length us) u t k.0 h)
-
-  pub variables_in : (n : ℕ) → TreesIn (variables n)
-  variables_in zero = tt
-  variables_in (suc n) = (tt, variables_in n)
-
-  pub lift_all_in : (n : ℕ) (ts : List Tree) → TreesIn ts → TreesIn (lift_all n ts)
-  lift_all_in n [] h = tt
-  lift_all_in n (t ∷ ts) h = (lift_in 0 n t h.0, lift_all_in n ts h.1)
-
-  pub lift_domains_in : (place n : ℕ) (as_ : List Tree) → TreesIn as_ → TreesIn (lift_domains place n as_)
-  lift_domains_in place n [] h = tt
-  lift_domains_in place n (a ∷ as_) h = (lift_in place n a h.0, lift_domains_in (place + 1) n as_ h.1)
-
-  codomain_in : (u t : Tree) → TreeIn u → TreeIn t → TreeIn (codomain_at u t)
-  codomain_in u (prod a b) k h = subst_in 0 u b k h.1.1.0
-  codomain_in u t k h = h
-
-  pub instantiate_in : (us : List Tree) (t : Tree) → TreesIn us → TreeIn t → TreeIn (instantiate us t)
-  instantiate_in [] t k h = h
-  instantiate_in (u ∷ us) t k h = instantiate_in us (codomain_at u t) k.1 (codomain_in u t k.0 h)
-
-  pub branch_in : (ks : Children) (i : ℕ) → PartsIn ks → Within (λ b. TreeIn b.body) (branch_at ks i)
-  branch_in no_child i h = tt
-  branch_in (child b t ks) zero h = h.0
-  branch_in (child b t ks) (suc i) h = branch_in ks i h.1
-
-  -- The functions of a Fix.
-  trees_in : (ks : Children) → PartsIn ks → TreesIn (trees_of ks)
-  trees_in no_child h = tt
-  trees_in (child b t ks) h = (h.0, trees_in ks h.1)
-
-  tree_at_in : (ts : List Tree) (i : ℕ) → TreesIn ts → TreeIn (tree_at ts i)
-  tree_at_in [] i h = tt
-  tree_at_in (t ∷ ts) zero h = h.0
-  tree_at_in (t ∷ ts) (suc i) h = tree_at_in ts i h.1
-
-  split_in : (ss : List Shape) (ts : List Tree) → TreesIn ts → FunctionsIn (split_functions ss ts)
-  split_in [] ts h = tt
-  split_in (s ∷ ss) ts h = (
-    (each_taken TreeIn s.domains ts h, tree_at_in ts s.domains h, tree_at_in ts (s.domains + 1) h),
-    split_in ss (drop (s.domains + 2) ts) (each_dropped TreeIn (s.domains + 2) ts h),
-  )
-
-  some_in : (c : Bool) (fs : List Function) → FunctionsIn fs → Within FunctionsIn (if c then Some fs else None)
-  some_in true fs h = h
-  some_in false fs h = tt
-
-  pub functions_in : (shapes : List Shape) (parts : Children) → PartsIn parts → Within FunctionsIn (functions_of shapes parts)
-  functions_in shapes parts h =
-      let fs = split_functions shapes (trees_of parts) in
-      some_in (same_children parts (function_parts (length fs) fs)) fs (split_in shapes (trees_of parts) (trees_in parts h))
-
-  join_in : (ks ls : Children) → PartsIn ks → PartsIn ls → PartsIn (join ks ls)
-  join_in no_child ls h k = k
-  join_in (child b t ks) ls h k = (h.0, join_in ks ls h.1 k)
-
-  domain_parts_in : (above : ℕ) (as_ : List Tree) → TreesIn as_ → PartsIn (domain_parts above as_)
-  domain_parts_in above [] h = tt
-  domain_parts_in above (a ∷ as_) h = (h.0, domain_parts_in (above + 1) as_ h.1)
-
-  function_parts_in : (all : ℕ) (fs : List Function) → FunctionsIn fs → PartsIn (function_parts all fs)
-  function_parts_in all [] h = tt
-  function_parts_in all (f ∷ fs) h =
-      join_in (domain_parts 0 f.domains) (child (many (length f.domains)) f.codomain (child (many (all + length f.domains)) f.body (function_parts all fs)))
-      (domain_parts_in 0 f.domains h.0.0) (h.0.1, (h.0.2, function_parts_in all fs h.1))
-
-  each_fixpoint_in : (count which : ℕ) (fs : List Function) → FunctionsIn fs → TreesIn (each_fixpoint count which fs)
-  each_fixpoint_in zero which fs h = tt
-  each_fixpoint_in (suc count) which fs h = ((tt, function_parts_in (length fs) fs h), each_fixpoint_in count (which + 1) fs h)
-
-  pub full_body_in : (all : ℕ) (f : Function) → FunctionIn f → TreeIn (full_body all f)
-  full_body_in all f h = abstractions_in (lift_domains 0 all f.domains) f.body (lift_domains_in 0 all f.domains h.0) h.2
-
-  pub unfolded_in : (fs : List Function) (f : Function) → FunctionsIn fs → FunctionIn f → TreeIn (unfolded fs f)
-  unfolded_in fs f h k =
-      substitute_all_in (each_fixpoint (length fs) 0 fs) (full_body (length fs) f) (each_fixpoint_in (length fs) 0 fs h) (full_body_in (length fs) f k)
-
-  pub function_type_in : (f : Function) → FunctionIn f → TreeIn (function_type f)
-  function_type_in f h = products_in f.domains f.codomain h.0 h.1
-
-  pub function_types_in : (fs : List Function) → FunctionsIn fs → TreesIn (function_types fs)
-  function_types_in [] h = tt
-  function_types_in (f ∷ fs) h = (function_type_in f h.0, function_types_in fs h.1)

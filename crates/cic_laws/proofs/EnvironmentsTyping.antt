@@ -1,6 +1,7 @@
--- Inference, a check against a type and the sort of a type answer the same over two environments that
--- agree on a set of ids, where the terms name ids of the set alone and so does what these ids stand for.
--- It follows the text of each definition, and is by induction on what is left of the depth.
+-- Inference, a check against a type and the sort of a type answer the same over two environments that agree on a set
+-- of ids, where the terms name ids of the set alone and so does what these ids stand for. It follows the text of each
+-- definition, and is by induction on what is left of the depth. The check of a declaration over two such environments
+-- rests on it.
 use Rattle.std.proofs.Common.{◌≡◌, ℕ, zero, suc, ◌+◌, ◌-◌, not, ◌&&◌, ◌||◌, nat_eq, List, [], ◌∷◌, ◌++◌, length, take, drop, ap}
 use Rattle.std.specs.Prelude.{option_map}
 use Rattle.cic_terms.specs.Tree.{TreeSort, prop, set, typ, own, Shape, Tree, rel, Children, child, sort, prod, lam, let_in, app, const, ind, ctor, case, fix}
@@ -17,10 +18,11 @@ use Rattle.cic_counted.specs.GuardTest.{guard_fault}
 use Rattle.cic_counted.specs.Outcome.{Counted, refused, global, local, unbound, not_function, not_inductive, bad_elimination, bad_branch_count, universe_form, unguarded, deep, give, or_refuse, require, refuse_for, tick}
 use Rattle.cic_counted.specs.Evaluation.{whnf_at}
 use Rattle.cic_counted.specs.Inference.{Calls, Product, as_sort, as_product, expose, next_level, type_of_sort, product_sort, are_branches, is_prop, ends_in_prop, branch_goal, all_propositions, eliminates_constructors, eliminates, check_branches, infer_match, infer_case, sort_each, function_context, check_bodies, infer_fix, infer_step, calls_at, calls_from}
-use Rattle.cic_laws.proofs.EnvironmentsTerms.{Within, each_joined, each_taken, each_dropped, each_element, TreeIn, PartsIn, TreesIn, ContextIn, FunctionIn, FunctionsIn, lift_in, subst_in, apply_in, arguments_in, domains_in, conclusion_in, extend_in, type_at_in, substitute_all_in, variables_in, lift_all_in, instantiate_in, functions_in, function_type_in, function_types_in}
+use Rattle.cic_laws.proofs.EnvironmentsTerms.{TreeIn, PartsIn, TreesIn, ContextIn, FunctionIn, FunctionsIn, extend_in, type_at_in, naming}
 use Rattle.cic_laws.proofs.EnvironmentsGuard.{guard_same}
 use Rattle.cic_laws.proofs.EnvironmentsCalls.{Any, Alike, alike_itself, alike_give, alike_stop, alike_bind, alike_then, alike_if, alike_to, alike_or_refuse, alike_lookup, alike_fitting, alike_fitting_all, ConstructorIn, TypeIn, MeaningIn, constant_in, inductive_in, block_in, constructor_within}
 use Rattle.cic_laws.proofs.EnvironmentsEvaluation.{alike_whnf, alike_cumul, alike_fitting_body}
+use Rattle.cic_laws.proofs.Formers.{Within, each_joined, each_taken, each_dropped, each_element, lift_in, subst_in, apply_in, arguments_in, domains_in, conclusion_in, substitute_all_in, variables_in, lift_all_in, instantiate_in, functions_in, function_type_in, function_types_in}
 
 pub record CallsAlike (S : GlobalId → Type 0) (calls calls' : Calls) : Type 0 where
   pub infer : (G : Context) (t : Tree) → ContextIn S G → TreeIn S t → Alike (TreeIn S) (calls.infer G t) (calls'.infer G t)
@@ -45,23 +47,23 @@ module _ (S : GlobalId → Type 0) where
   alike_context : (before : ℕ) (G : Context) (ts : List Tree) → ContextIn S G → TreesIn S ts → Alike (ContextIn S) (function_context before G ts) (function_context before G ts)
   alike_context before G [] g h = alike_give (ContextIn S) G g
   alike_context before G (t ∷ ts) g h =
-      alike_bind (alike_fitting S (lift_tree 0 before t) (lift_in S 0 before t h.0)) (λ u k. alike_context (before + 1) (assumed u ∷ G) ts ((k, tt), g) h.1)
+      alike_bind (alike_fitting S (lift_tree 0 before t) (lift_in (naming S) 0 before t h.0)) (λ u k. alike_context (before + 1) (assumed u ∷ G) ts ((k, tt), g) h.1)
 
   goal_in : (a : ℕ) (parameters : List Tree) (p : Tree) (k : ConstructorDeclaration) → TreesIn S parameters → TreeIn S p → ConstructorIn S k → TreeIn S (branch_goal a parameters p k)
   goal_in a parameters p k hs hp hk =
       let type = instantiate parameters k.type in
       let m = length (domains_of type) in
-      let inside : TreeIn S type = instantiate_in S parameters k.type hs hk.1 in
+      let inside : TreeIn S type = instantiate_in (naming S) parameters k.type hs hk.1 in
       let made : TreeIn S (apply (ctor k.id) (lift_all m parameters ++ variables m)) =
-      apply_in S (ctor k.id) (lift_all m parameters ++ variables m) (hk.0, tt)
-      (each_joined (TreeIn S) (lift_all m parameters) (variables m) (lift_all_in S m parameters hs) (variables_in S m)) in
-      substitute_all_in S
+      apply_in (naming S) (ctor k.id) (lift_all m parameters ++ variables m) (hk.0, tt)
+      (each_joined (TreeIn S) (lift_all m parameters) (variables m) (lift_all_in (naming S) m parameters hs) (variables_in (naming S) m)) in
+      substitute_all_in (naming S)
       (drop (length parameters) (arguments_of (conclusion_of type)) ++ apply (ctor k.id) (lift_all m parameters ++ variables m) ∷ [])
       (lift_tree (a + 1) m p)
       (each_joined (TreeIn S) (drop (length parameters) (arguments_of (conclusion_of type))) (apply (ctor k.id) (lift_all m parameters ++ variables m) ∷ [])
-      (each_dropped (TreeIn S) (length parameters) (arguments_of (conclusion_of type)) (arguments_in S (conclusion_of type) (conclusion_in S type inside)))
+      (each_dropped (TreeIn S) (length parameters) (arguments_of (conclusion_of type)) (arguments_in (naming S) (conclusion_of type) (conclusion_in (naming S) type inside)))
       (made, tt))
-      (lift_in S (a + 1) m p hp)
+      (lift_in (naming S) (a + 1) m p hp)
 
 module _ (S : GlobalId → Type 0) (calls calls' : Calls) (c : CallsAlike S calls calls') where
   alike_all_propositions : (id : GlobalId) (G : Context) (as_ : List Tree) → ContextIn S G → TreesIn S as_ → Alike Any (all_propositions calls id G as_) (all_propositions calls' id G as_)
@@ -73,7 +75,7 @@ module _ (S : GlobalId → Type 0) (calls calls' : Calls) (c : CallsAlike S call
   alike_eliminates_constructors : (id : GlobalId) (r : ℕ) (ks : List ConstructorDeclaration) → Each (ConstructorIn S) ks → Alike Any (eliminates_constructors calls id r ks) (eliminates_constructors calls' id r ks)
   alike_eliminates_constructors id r [] h = alike_itself (give tt)
   alike_eliminates_constructors id r (k ∷ []) h =
-      let domains : TreesIn S (domains_of k.type) = domains_in S k.type h.0.1 in
+      let domains : TreesIn S (domains_of k.type) = domains_in (naming S) k.type h.0.1 in
       alike_all_propositions id (extend [] (take r (domains_of k.type))) (drop r (domains_of k.type))
       (extend_in S [] (take r (domains_of k.type)) tt (each_taken (TreeIn S) r (domains_of k.type) domains))
       (each_dropped (TreeIn S) r (domains_of k.type) domains)
@@ -85,7 +87,7 @@ module _ (S : GlobalId → Type 0) (calls calls' : Calls) (c : CallsAlike S call
 
   alike_branches : (G : Context) (a : ℕ) (parameters : List Tree) (p : Tree) (ks : List ConstructorDeclaration) (branches : Children) → ContextIn S G → TreesIn S parameters → TreeIn S p → Each (ConstructorIn S) ks → PartsIn S branches → Alike Any (check_branches calls G a parameters p ks branches) (check_branches calls' G a parameters p ks branches)
   alike_branches G a parameters p (k ∷ ks) (child b t branches) g hs hp hk h =
-      alike_bind (alike_fitting_all S (domains_of (instantiate parameters k.type)) (domains_in S (instantiate parameters k.type) (instantiate_in S parameters k.type hs hk.0.1))) (λ as_ ha.
+      alike_bind (alike_fitting_all S (domains_of (instantiate parameters k.type)) (domains_in (naming S) (instantiate parameters k.type) (instantiate_in (naming S) parameters k.type hs hk.0.1))) (λ as_ ha.
       alike_bind (alike_fitting S (branch_goal a parameters p k) (goal_in S a parameters p k hs hp hk.0)) (λ goal hg.
       alike_then (c.check (extend G as_) t goal (extend_in S G as_ g ha) h.0 hg) (alike_branches G a parameters p ks branches g hs hp hk.1 h.1)))
   alike_branches G a parameters p _ _ g hs hp hk h = alike_itself (give tt)
@@ -98,7 +100,7 @@ module _ (S : GlobalId → Type 0) (calls calls' : Calls) (c : CallsAlike S call
   alike_check_bodies G all [] g h = alike_itself (give tt)
   alike_check_bodies G all (f ∷ fs) g h =
       alike_bind (alike_fitting_body S all f h.0) (λ b hb.
-      alike_bind (alike_fitting S (lift_tree 0 all (function_type f)) (lift_in S 0 all (function_type f) (function_type_in S f h.0))) (λ t ht.
+      alike_bind (alike_fitting S (lift_tree 0 all (function_type f)) (lift_in (naming S) 0 all (function_type f) (function_type_in (naming S) f h.0))) (λ t ht.
       alike_then (c.check G b t g hb ht) (alike_check_bodies G all fs g h.1)))
 
   module _ (whnf whnf' : Tree → Counted Tree) (w : (t : Tree) → TreeIn S t → Alike (TreeIn S) (whnf t) (whnf' t)) where
@@ -110,18 +112,18 @@ module _ (S : GlobalId → Type 0) (calls calls' : Calls) (c : CallsAlike S call
     alike_infer_match G id n p v branches r a t g s hp hv hb ht =
         alike_bind (c.infer G v g hv) (λ T hT. alike_bind (alike_expose G T g hT) (λ C hC.
         let firsts = take r (arguments_of C) in
-        let first_in : TreesIn S firsts = each_taken (TreeIn S) r (arguments_of C) (arguments_in S C hC) in
-        let last_in : TreesIn S (drop r (arguments_of C)) = each_dropped (TreeIn S) r (arguments_of C) (arguments_in S C hC) in
+        let first_in : TreesIn S firsts = each_taken (TreeIn S) r (arguments_of C) (arguments_in (naming S) C hC) in
+        let last_in : TreesIn S (drop r (arguments_of C)) = each_dropped (TreeIn S) r (arguments_of C) (arguments_in (naming S) C hC) in
         alike_then (alike_itself (require (same_tree (head_of C) (ind id) && nat_eq (length (arguments_of C)) (r + a)) (not_inductive (length G) C)))
         (alike_then (alike_itself (require (nat_eq n a && are_branches r t.constructors branches) (bad_branch_count id)))
-        (alike_bind (alike_fitting_all S (domains_of (instantiate firsts t.arity)) (domains_in S (instantiate firsts t.arity) (instantiate_in S firsts t.arity first_in ht.1))) (λ indices hi.
-        alike_bind (alike_fitting_all S (lift_all a firsts) (lift_all_in S a firsts first_in)) (λ parameters hs.
+        (alike_bind (alike_fitting_all S (domains_of (instantiate firsts t.arity)) (domains_in (naming S) (instantiate firsts t.arity) (instantiate_in (naming S) firsts t.arity first_in ht.1))) (λ indices hi.
+        alike_bind (alike_fitting_all S (lift_all a firsts) (lift_all_in (naming S) a firsts first_in)) (λ parameters hs.
         alike_bind (c.sort_of (assumed (apply (ind id) (parameters ++ variables a)) ∷ extend G indices) p
-        ((apply_in S (ind id) (parameters ++ variables a) (s, tt) (each_joined (TreeIn S) parameters (variables a) hs (variables_in S a)), tt), extend_in S G indices g hi) hp) (λ sort k.
+        ((apply_in (naming S) (ind id) (parameters ++ variables a) (s, tt) (each_joined (TreeIn S) parameters (variables a) hs (variables_in (naming S) a)), tt), extend_in S G indices g hi) hp) (λ sort k.
         alike_then (alike_eliminates id r t sort ht.2)
         (alike_then (alike_branches G a firsts p t.constructors branches g first_in hp ht.2 hb)
         (alike_fitting S (substitute_all (drop r (arguments_of C) ++ v ∷ []) p)
-        (substitute_all_in S (drop r (arguments_of C) ++ v ∷ []) p (each_joined (TreeIn S) (drop r (arguments_of C)) (v ∷ []) last_in (hv, tt)) hp))))))))))
+        (substitute_all_in (naming S) (drop r (arguments_of C) ++ v ∷ []) p (each_joined (TreeIn S) (drop r (arguments_of C)) (v ∷ []) last_in (hv, tt)) hp))))))))))
 
 module _ (S : GlobalId → Type 0) (E E' : Environment) (e : (id : GlobalId) → S id → meaning E id ≡ meaning E' id) (closed : (id : GlobalId) → S id → Within (MeaningIn S) (meaning E id)) where
   module _ (calls calls' : Calls) (c : CallsAlike S calls calls') where
@@ -132,12 +134,12 @@ module _ (S : GlobalId → Type 0) (E E' : Environment) (e : (id : GlobalId) →
 
     alike_infer_fix : (G : Context) (which : ℕ) (shapes : List Shape) (parts : Children) → ContextIn S G → PartsIn S parts → Alike (TreeIn S) (infer_fix calls E G which shapes parts) (infer_fix calls' E' G which shapes parts)
     alike_infer_fix G which shapes parts g h =
-        alike_bind (alike_or_refuse (FunctionsIn S) (functions_of shapes parts) (unguarded which 0) (functions_in S shapes parts h)) (λ fs hs.
+        alike_bind (alike_or_refuse (FunctionsIn S) (functions_of shapes parts) (unguarded which 0) (functions_in (naming S) shapes parts h)) (λ fs hs.
         alike_bind (alike_or_refuse (FunctionIn S) (element fs which) (unguarded which 0) (each_element (FunctionIn S) fs which hs)) (λ f hf.
-        alike_then (alike_sort_each S calls calls' c G (function_types fs) g (function_types_in S fs hs))
-        (alike_bind (alike_context S 0 G (function_types fs) g (function_types_in S fs hs)) (λ G' g'.
+        alike_then (alike_sort_each S calls calls' c G (function_types fs) g (function_types_in (naming S) fs hs))
+        (alike_bind (alike_context S 0 G (function_types fs) g (function_types_in (naming S) fs hs)) (λ G' g'.
         alike_then (alike_check_bodies S calls calls' c G' (length fs) fs g' hs)
-        (alike_then (alike_guard fs hs) (alike_give (TreeIn S) (function_type f) (function_type_in S f hf)))))))
+        (alike_then (alike_guard fs hs) (alike_give (TreeIn S) (function_type f) (function_type_in (naming S) f hf)))))))
 
     alike_infer_case : (whnf whnf' : Tree → Counted Tree) → ((t : Tree) → TreeIn S t → Alike (TreeIn S) (whnf t) (whnf' t)) → (G : Context) (id : GlobalId) (n : ℕ) (p v : Tree) (branches : Children) → ContextIn S G → S id → TreeIn S p → TreeIn S v → PartsIn S branches → Alike (TreeIn S) (infer_case whnf calls E G id n p v branches) (infer_case whnf' calls' E' G id n p v branches)
     alike_infer_case whnf whnf' w G id n p v branches g s hp hv hb =
@@ -148,7 +150,7 @@ module _ (S : GlobalId → Type 0) (E E' : Environment) (e : (id : GlobalId) →
 
     alike_infer : (whnf whnf' : Context → Tree → Counted Tree) → ((G : Context) (t : Tree) → ContextIn S G → TreeIn S t → Alike (TreeIn S) (whnf G t) (whnf' G t)) → (G : Context) (t : Tree) → ContextIn S G → TreeIn S t → Alike (TreeIn S) (infer_step whnf calls E G t) (infer_step whnf' calls' E' G t)
     alike_infer whnf whnf' w G (rel x) g h =
-        alike_bind (alike_or_refuse (TreeIn S) (type_at G x) (unbound (local x)) (type_at_in S G x g)) (λ a k. alike_fitting S (lift_tree 0 (x + 1) a) (lift_in S 0 (x + 1) a k))
+        alike_bind (alike_or_refuse (TreeIn S) (type_at G x) (unbound (local x)) (type_at_in S G x g)) (λ a k. alike_fitting S (lift_tree 0 (x + 1) a) (lift_in (naming S) 0 (x + 1) a k))
     alike_infer whnf whnf' w G (sort s) g h = alike_type_of_sort S s
     alike_infer whnf whnf' w G (prod a b) g h =
         alike_bind (c.sort_of G a g h.1.0) (λ s k. alike_bind (c.sort_of (assumed a ∷ G) b ((h.1.0, tt), g) h.1.1.0) (λ s' k'.
@@ -158,12 +160,12 @@ module _ (S : GlobalId → Type 0) (E E' : Environment) (e : (id : GlobalId) →
         alike_give (TreeIn S) (prod a b) (tt, (h.1.0, (k, tt)))))
     alike_infer whnf whnf' w G (let_in t a u) g h =
         alike_then (c.sort_of G a g h.1.1.0) (alike_then (c.check G t a g h.1.0 h.1.1.0)
-        (alike_bind (c.infer (defined t a ∷ G) u ((h.1.1.0, h.1.0), g) h.1.1.1.0) (λ b k. alike_fitting S (subst_tree 0 t b) (subst_in S 0 t b h.1.0 k))))
+        (alike_bind (c.infer (defined t a ∷ G) u ((h.1.1.0, h.1.0), g) h.1.1.1.0) (λ b k. alike_fitting S (subst_tree 0 t b) (subst_in (naming S) 0 t b h.1.0 k))))
     alike_infer whnf whnf' w G (app f u) g h =
         alike_bind (c.infer G f g h.1.0) (λ T hT.
         alike_bind (alike_expose S calls calls' c (whnf G) (whnf' G) (λ t k. w G t g k) G T g hT) (λ V hV.
         alike_bind (alike_as_product S G V hV) (λ P hP.
-        alike_then (c.check G u P.domain g h.1.1.0 hP.0) (alike_fitting S (subst_tree 0 u P.codomain) (subst_in S 0 u P.codomain h.1.1.0 hP.1)))))
+        alike_then (c.check G u P.domain g h.1.1.0 hP.0) (alike_fitting S (subst_tree 0 u P.codomain) (subst_in (naming S) 0 u P.codomain h.1.1.0 hP.1)))))
     alike_infer whnf whnf' w G (const k) g h =
         alike_lookup (TreeIn S) (constant_type E k) (constant_type E' k) (unbound (global k)) (ap constant_type_in (e k h.0)) (constant_in S (meaning E k) (closed k h.0))
     alike_infer whnf whnf' w G (ind k) g h =

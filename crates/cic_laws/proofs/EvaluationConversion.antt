@@ -1,11 +1,11 @@
--- What conversion and subtyping are done with is convertible and at most: by induction on the steps that
--- were taken, since every call within a call takes fewer. The types of the functions of two fixpoints
--- are compared as products, and their bodies as abstractions; both stay when they are evaluated, so that
--- the comparison went into their domains and into what stands after them.
+-- What conversion and subtyping are done with is convertible and at most: by induction on the steps that were taken,
+-- since every call within a call takes fewer. The types of the functions of two fixpoints are compared as products,
+-- and their bodies as abstractions; both stay when they are evaluated, so that the comparison went into their domains
+-- and into what stands after them. The laws of conversion and of inference rest on it.
 use Rattle.std.proofs.Common.{◌≡◌, ◌≢◌, ℕ, zero, suc, ◌+◌, ◌<◌, ◌⊎◌, inl, inr, true, List, [], ◌∷◌, ◌++◌, length, refl, sym, ap, ◌∙◌, arith, subst}
 use Rattle.std.proofs.lemmas.Bool.{eqb-true}
 use Rattle.std.proofs.lemmas.List.{length-map}
-use Rattle.cic_terms.specs.Tree.{Shape, Former, ProdF, LamF, LetF, CaseF, FixF, Binders, none, one, many, over, Tree, rel, node, Children, no_child, child, prod, lam, join}
+use Rattle.cic_terms.specs.Tree.{Shape, Former, ProdF, LamF, LetF, CaseF, FixF, none, one, many, over, Tree, rel, node, Children, no_child, child, prod, lam, join}
 use Rattle.cic_rules.specs.Sameness.{same_binders}
 use Rattle.cic_rules.specs.Numbering.{Numbering, MeetsAll}
 use Rattle.cic_rules.specs.Environment.{Environment, Context, unknown, under_unknown}
@@ -15,12 +15,14 @@ use Rattle.cic_rules.specs.Conversion as C
 use Rattle.cic_counted.specs.Outcome.{Budget, done}
 use Rattle.cic_counted.specs.Evaluation.{same_places, value_first, conv_at, cumul_at}
 use Rattle.cic_counted.specs.Done.{Cost, ◌then◌, called, Stays, Evaluates, Reduces, evaluates, stays, variable_stays, variable_steps, constant_stays, constant_steps, let_steps, function_applied, application_stays, recursion_stays, recursion_steps, match_stays, match_steps, InOrder, Converts, converts_same, converts_heads, Compares, same_variables, equal_sorts, in_order, matches, fixpoints, ConvertsParts, converts_no_part, converts_part, ConvertsEach, converts_more, ConvertsBodies, converts_body, Cumulates, cumulates_same, cumulates_heads, Below, products_below, sorts_below, compared}
-use Rattle.cic_counted.proofs.Decided.{both, both_true, same_tree-is, same_children-is}
+use Rattle.cic_counted.proofs.Decided.{both, both_true, same_tree-is, same_former-is, same_binders-is}
 use Rattle.cic_counted.proofs.TakenConversion.{conv_done, cumul_done}
+use Rattle.cic_counted.proofs.Keys.{heads, tails}
 use Rattle.cic_laws.specs.Reaching.{Reaches, arrived, onward, ClosedBodies}
-use Rattle.cic_laws.proofs.EvaluationReadings.{former_is, read_off}
+use Rattle.cic_laws.proofs.EvaluationReadings.{read_off}
 use Rattle.cic_laws.proofs.EvaluationSteps.{evaluates_reaches}
 use Rattle.cic_laws.proofs.EvaluationSorts.{meets_append, inserted_met, sorts_convertible, sorts_at_most_is}
+use Rattle.cic_laws.proofs.Telescopes.{length_lift_domains}
 
 -- A cost of fewer than n steps whose constraints a numbering meets.
 record Within (N : Numbering) (n : ℕ) (c : Cost) : Type 0 where
@@ -101,16 +103,11 @@ Pairs E N G no_child no_child = Unit {0}
 Pairs E N G (child b t ks) (child c u ls) = Convertible E N (under_unknown (over b 0) G) t u × Pairs E N G ks ls
 Pairs E N G _ _ = ⊥
 
-binders_are : (b c : Binders) → same_binders b c ≡ true → b ≡ c
-binders_are b c q =
-    let e : child b (rel 0) no_child ≡ child c (rel 0) no_child = same_children-is (child b (rel 0) no_child) (child c (rel 0) no_child) (both_true _ _ (both_true _ _ q refl) refl) in
-    cc
-
 pairs_are_parts : {E : Environment} {N : Numbering} (G : Context) (ks ls : Children) → Pairs E N G ks ls → same_places ks ls ≡ true → ConvertibleParts E N G ks ls
 pairs_are_parts G no_child no_child h q = no_parts
 pairs_are_parts {E} {N} G (child b t ks) (child c u ls) h q =
     let p = both (same_binders b c) (same_places ks ls) q in
-    subst (λ z. ConvertibleParts E N G (child b t ks) (child z u ls)) (binders_are b c p.0) (both_parts h.0 (pairs_are_parts G ks ls h.1 p.1))
+    subst (λ z. ConvertibleParts E N G (child b t ks) (child z u ls)) (same_binders-is b c p.0) (both_parts h.0 (pairs_are_parts G ks ls h.1 p.1))
 pairs_are_parts G no_child (child c u ls) h q = absurd h
 pairs_are_parts G (child b t ks) no_child h q = absurd h
 
@@ -152,17 +149,7 @@ alike_abstractions {E} {N} {n} {G} {a} {a'} {b} {b'} (inr h) = heads (stays_comp
     heads (inr h) = (two_parts (compared_abstractions h.1) h.2).1
 
 shape_domains : (f g : Function) (fs gs : List Function) → function_shapes (f ∷ fs) ≡ function_shapes (g ∷ gs) → (length f.domains ≡ length g.domains) × (function_shapes fs ≡ function_shapes gs)
-shape_domains f g fs gs e = (ap (λ (s : Shape). s.domains) (first e), rest e)
-  where
-    first : {s s' : Shape} {ss ss' : List Shape} → s ∷ ss ≡ s' ∷ ss' → s ≡ s'
-    first e = cc
-
-    rest : {s s' : Shape} {ss ss' : List Shape} → s ∷ ss ≡ s' ∷ ss' → ss ≡ ss'
-    rest e = cc
-
-length-lift_domains : (place n : ℕ) (as_ : List Tree) → length (lift_domains place n as_) ≡ length as_
-length-lift_domains place n [] = refl
-length-lift_domains place n (a ∷ as_) = ap suc (length-lift_domains (place + 1) n as_)
+shape_domains f g fs gs e = (ap (λ (s : Shape). s.domains) (heads e), tails e)
 
 shapes_length : (fs gs : List Function) → function_shapes fs ≡ function_shapes gs → length fs ≡ length gs
 shapes_length fs gs e = sym (length-map fs _) ∙ ap length e ∙ length-map gs _
@@ -216,8 +203,8 @@ module _ (E : Environment) (N : Numbering) (n : ℕ)
 
   body_end : (G : Context) (all : ℕ) (f g : Function) → length f.domains ≡ length g.domains → Alike E N n (under_unknown all G) (full_body all f) (full_body all g) → Convertible E N (under_unknown (all + length f.domains) G) f.body g.body
   body_end G all f g l h =
-      let lf = length-lift_domains 0 all f.domains in
-      let lg = length-lift_domains 0 all g.domains in
+      let lf = length_lift_domains f.domains 0 all in
+      let lg = length_lift_domains g.domains 0 all in
       let below = abstractions_end (under_unknown all G) (lift_domains 0 all f.domains) (lift_domains 0 all g.domains) f.body g.body (lf ∙ l ∙ sym lg) h in
       subst (λ z. Convertible E N z f.body g.body) (ap (λ z. under_unknown z (under_unknown all G)) lf ∙ under_more (length f.domains) all G) below
 
@@ -244,13 +231,13 @@ module _ (E : Environment) (N : Numbering) (n : ℕ)
   compared_convertible (same_variables {x = x} {y = y} q) w = identical (ap rel (eqb-true x y q))
   compared_convertible (equal_sorts {G = G} h) w = sorts_convertible E N G h w.met
   compared_convertible (in_order {G = G} {f = f} {g = g} {ks = ks} {ls = ls} o q p h) w =
-      nodes_convertible G f g ks ls (not_let f o) (former_is f g q) (pairs_are_parts G ks ls (pairs h w) p)
+      nodes_convertible G f g ks ls (not_let f o) (same_former-is f g q) (pairs_are_parts G ks ls (pairs h w) p)
   compared_convertible (matches {G = G} {id = id} {id' = id'} {ks = ks} {ls = ls} q p h) w =
-      nodes_convertible G (CaseF id) (CaseF id') ks ls (λ e. grind arith) (former_is (CaseF id) (CaseF id') q) (pairs_are_parts G ks ls (pairs_value_first E N G ks ls (pairs h w)) p)
+      nodes_convertible G (CaseF id) (CaseF id') ks ls (λ e. grind arith) (same_former-is (CaseF id) (CaseF id') q) (pairs_are_parts G ks ls (pairs_value_first E N G ks ls (pairs h w)) p)
   compared_convertible (fixpoints {G = G} {i = i} {j = j} {shapes = shapes} {shapes' = shapes'} {ks = ks} {ls = ls} {c = c} {d = d} fs gs p q x y h k kq) w =
       let r = read_off shapes ks fs x in
       let r' = read_off shapes' ls gs y in
-      let former : FixF i shapes ≡ FixF j shapes' = former_is (FixF i shapes) (FixF j shapes') (both_true _ _ p q) in
+      let former : FixF i shapes ≡ FixF j shapes' = same_former-is (FixF i shapes) (FixF j shapes') (both_true _ _ p q) in
       let same : shapes ≡ shapes' = (let e = former in cc) in
       let shapes_are : function_shapes fs ≡ function_shapes gs = sym r.shapes_are ∙ same ∙ r'.shapes_are in
       let costs = within_then c d kq w in

@@ -4,25 +4,20 @@ use Rattle.std.proofs.Common.{◌≡◌, ℕ, ◌+◌, Bool, true, false, nat_eq
 use Rattle.std.proofs.lemmas.Bool.{eqb-true}
 use Rattle.std.proofs.lemmas.List.{length-take, length-drop, length-append}
 use Rattle.std.proofs.Math.Seq.{drop-append-add}
-use Rattle.cic_terms.specs.Tree.{Shape, Former, ConstF, FixF, Tree, node, Children, no_child, child, app, ctor, fix, join}
+use Rattle.cic_terms.specs.Tree.{Shape, FixF, Tree, node, Children, app, ctor, fix}
 use Rattle.cic_terms.specs.declared.name.GlobalId.{GlobalId}
-use Rattle.cic_rules.specs.Sameness.{same_id, same_former, same_children}
+use Rattle.cic_rules.specs.Sameness.{same_id, same_children}
 use Rattle.cic_rules.specs.Environment.{Environment, Constructor, constructor_of, element}
 use Rattle.cic_rules.specs.Telescopes.{apply, head_of, arguments_of, substitute_all, BranchParts, branch_at, Function, domain_parts, function_parts, function_shapes, fixpoint, trees_of, split_functions, functions_of, tree_at, unfolded}
 use Rattle.cic_counted.specs.Evaluation.{is_constructor, unfolded_at, unfolds, branch_result, selected, matched}
-use Rattle.cic_counted.proofs.Decided.{both_true, same_tree-is, same_children-is}
+use Rattle.cic_counted.proofs.Decided.{same_children-is, same_id-is}
+use Rattle.cic_counted.proofs.Functions.{trees_of-join, trees_of-domains}
 
 pub some_inj : {A : Type 0} {x y : A} → ◌≡◌ {A = Option A} (Some x) (Some y) → x ≡ y
 some_inj e = cc
 
--- Formers and ids that are the same are equal
-pub former_is : (f g : Former) → same_former f g ≡ true → f ≡ g
-former_is f g h =
-    let e : node f no_child ≡ node g no_child = same_tree-is (node f no_child) (node g no_child) (both_true _ _ h refl) in
-    cc
-
-pub id_is : (a b : GlobalId) → same_id a b ≡ true → a ≡ b
-id_is a b h = let e = former_is (ConstF a) (ConstF b) h in cc
+pub some_is_not_none : {A X : Type 0} {a : A} → ◌≡◌ {A = Option A} None (Some a) → X
+some_is_not_none e = absurd cc
 
 -- Applications
 pub apply_append : (f : Tree) (us : List Tree) (v : Tree) → apply f (us ++ v ∷ []) ≡ app (apply f us) v
@@ -38,14 +33,6 @@ constructor_is (ctor c) e = (c, refl)
 constructor_is t e = absurd (grind arith)
 
 -- The functions of a fixpoint
-trees_of-join : (ks ls : Children) → trees_of (join ks ls) ≡ trees_of ks ++ trees_of ls
-trees_of-join no_child ls = refl
-trees_of-join (child b t ks) ls = ap (λ z. t ∷ z) (trees_of-join ks ls)
-
-trees_of-domains : (above : ℕ) (as_ : List Tree) → trees_of (domain_parts above as_) ≡ as_
-trees_of-domains above [] = refl
-trees_of-domains above (a ∷ as_) = ap (λ z. a ∷ z) (trees_of-domains (above + 1) as_)
-
 taken_whole : (n : ℕ) (ts ds : List Tree) (a b : Tree) (R : List Tree) → ds ≡ take n ts → ts ≡ ds ++ (a ∷ b ∷ R) → length ds ≡ n
 taken_whole n ts ds a b R d e =
     let p = ap length d ∙ length-take n ts in
@@ -156,7 +143,7 @@ selects_constructor E id c branches us b None q e = absurd (grind arith)
 selects_constructor E id c branches us b (Some K) q e = cases (same_id K.owner id) refl e
   where
     cases : (test : Bool) → same_id K.owner id ≡ test → (if test then branch_result K.parameters us (branch_at branches K.place) else None) ≡ Some b → Selects E id branches us (ctor c) b
-    cases true p e = selects_branch E id c branches us b K q (id_is K.owner id p) _ refl e
+    cases true p e = selects_branch E id c branches us b K q (same_id-is K.owner id p) _ refl e
     cases false p e = absurd (grind arith)
 
 pub matched_is : (E : Environment) (id : GlobalId) (branches : Children) (us : List Tree) (h b : Tree) → matched E id branches us h ≡ Some b → Selects E id branches us h b

@@ -1,17 +1,20 @@
--- What comparing two sorts has found says of their numbers: at a numbering that meets the constraints
--- that it finds, sorts made equal are convertible, and a sort below another is at most it.
+-- What comparing two sorts has found says of their numbers: at a numbering that meets the constraints that it finds,
+-- sorts made equal are convertible, and a sort below another is at most it. Conversion, subtyping and the check of a
+-- constructor compare sorts so.
 use Rattle.std.proofs.Common.{◌≡◌, ℕ, ◌+◌, ◌≤◌, max, Bool, true, false, if◌then◌else◌, Option, Some, None, List, [], ◌∷◌, ◌++◌, refl, sym, ap, ◌∙◌, arith, subst}
-use Rattle.cic_terms.specs.Tree.{TreeSort, typ, SortF, sort}
+use Rattle.cic_terms.specs.Tree.{TreeSort, typ, sort}
 use Rattle.cic_terms.specs.declared.level.Level.{Level}
 use Rattle.cic_terms.specs.declared.level.Atom.{Atom}
-use Rattle.cic_rules.specs.Sameness.{same_atoms, same_sort}
+use Rattle.cic_rules.specs.Sameness.{same_atoms}
 use Rattle.cic_rules.specs.Constraints.{Constraint, insert}
 use Rattle.cic_rules.specs.Numbering.{Numbering, level_number, atom_number, expression_number, plain_level, MeetsAt, MeetsAll}
 use Rattle.cic_rules.specs.Environment.{Environment, Context}
 use Rattle.cic_rules.specs.Conversion.{Convertible, identical, equal_universes, SortAtMost, proposition, set_at_most_set, set_at_most_universe, universes}
 use Rattle.cic_counted.specs.Done.{Cost, insert_all, SortsEqual, same_sorts, levels_equal, AtomsBelow, no_atom, atom_below, SortsBelow, prop_below, set_below_set, set_below_universe, same_universes, levels_below}
 use Rattle.cic_counted.proofs.Keys.{insert_met}
-use Rattle.cic_laws.proofs.EvaluationReadings.{some_inj, former_is}
+use Rattle.cic_counted.proofs.Decided.{same_sort-is}
+use Rattle.cic_counted.proofs.Taken.{max_le}
+use Rattle.cic_laws.proofs.EvaluationReadings.{some_inj}
 
 -- Sets of constraints that are met
 pub meets_append : (N : Numbering) (xs ys : List Constraint) → MeetsAll N (xs ++ ys) → MeetsAll N xs × MeetsAll N ys
@@ -29,7 +32,7 @@ pub met_along : (N : Numbering) {k c : Cost} → k ≡ c → MeetsAll N k.found 
 met_along N e h = subst (λ (z : Cost). MeetsAll N z.found) e h
 
 -- Numbers of expressions
-plain_number : (N : Numbering) (e : List Atom) (l : Level) → plain_level e ≡ Some l → expression_number N e ≡ level_number N l
+pub plain_number : (N : Numbering) (e : List Atom) (l : Level) → plain_level e ≡ Some l → expression_number N e ≡ level_number N l
 plain_number N [] l q = absurd (grind arith)
 plain_number N (a ∷ b ∷ as_) l q = absurd (grind arith)
 plain_number N (a ∷ []) l q = cases a.plus q
@@ -42,28 +45,22 @@ atom_at_most : (strict : Bool) (left right : ℕ) → MeetsAt strict left right 
 atom_at_most true left right h = omega (arith, h)
 atom_at_most false left right h = h
 
-max_at_most : (m n k : ℕ) → m ≤ k → n ≤ k → max m n ≤ k
-max_at_most m n k p q = omega (arith, p, q)
-
 atoms_at_most : (N : Numbering) (m : Level) {as_ : List Atom} {c : Cost} → AtomsBelow m as_ c → MeetsAll N c.found → expression_number N as_ ≤ level_number N m
 atoms_at_most N m no_atom h = omega arith
 atoms_at_most N m (atom_below {a = a} {as_ = as_} {c = c} b kq) h =
     let met = met_along N kq h in
-    max_at_most (atom_number N a) (expression_number N as_) (level_number N m)
+    max_le (atom_number N a) (expression_number N as_) (level_number N m)
     (atom_at_most a.plus (level_number N a.level) (level_number N m) met.0) (atoms_at_most N m b met.1)
 
 -- Sorts
-sort_is : (s s' : TreeSort) → same_sort s s' ≡ true → s ≡ s'
-sort_is s s' q = let e = former_is (SortF s) (SortF s') q in cc
-
 atoms_are : (e e' : List Atom) → same_atoms e e' ≡ true → e ≡ e'
-atoms_are e e' q = let p = sort_is (typ e) (typ e') q in cc
+atoms_are e e' q = let p = same_sort-is (typ e) (typ e') q in cc
 
 both_ways : (m n : ℕ) → m ≤ n → n ≤ m → n ≡ m
 both_ways m n p q = omega (arith, p, q)
 
 pub sorts_convertible : (E : Environment) (N : Numbering) (G : Context) {s s' : TreeSort} {c : Cost} → SortsEqual s s' c → MeetsAll N c.found → Convertible E N G (sort s) (sort s')
-sorts_convertible E N G (same_sorts {s = s} {s' = s'} q) h = identical (ap (λ z. sort z) (sort_is s s' q))
+sorts_convertible E N G (same_sorts {s = s} {s' = s'} q) h = identical (ap (λ z. sort z) (same_sort-is s s' q))
 sorts_convertible E N G (levels_equal {e = e} {e' = e'} l m n p q kq) h =
     let met = met_along N kq h in
     let same : level_number N m ≡ level_number N l = both_ways (level_number N l) (level_number N m) met.0 met.1.0 in

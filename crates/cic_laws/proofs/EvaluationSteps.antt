@@ -1,5 +1,6 @@
--- Evaluation is by steps of the rules: by induction on what evaluation is done with, since each of its
--- reductions is a step, and a step in the function, the argument or the matched value is one of the whole.
+-- Evaluation is by steps of the rules: by induction on what evaluation is done with, since each of its reductions is a
+-- step, and a step in the function, the argument or the matched value is one of the whole. Conversion and inference
+-- evaluate their terms, so their laws rest on it.
 use Rattle.std.proofs.Common.{◌≡◌, ℕ, Some, ◌++◌, length, take, drop, true, refl, sym, ap, ap₂, ◌∙◌, subst}
 use Rattle.std.proofs.lemmas.List.{take-append-drop}
 use Rattle.cic_terms.specs.Tree.{Former, Binders, none, Tree, node, Children, child, app, ctor, case}

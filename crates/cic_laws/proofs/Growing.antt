@@ -4,6 +4,7 @@ use Rattle.std.proofs.Common.{◌≡◌, [], ◌∷◌, ◌++◌, Option, Some, 
 use Rattle.cic_terms.specs.declared.name.GlobalId.{GlobalId}
 use Rattle.cic_rules.specs.Environment.{Environment, Meaning, or_else, item_meaning, meaning, constant_type_in, transparent_body_in, arity_in, whole_block_in, constructor_in}
 use Rattle.cic_laws.specs.Growth.{Grows}
+use Rattle.cic_laws.proofs.EvaluationReadings.{some_is_not_none}
 
 second_stays : (x y y' : Option Meaning) (m : Meaning) → (y ≡ Some m → y' ≡ Some m) → or_else x y ≡ Some m → or_else x y' ≡ Some m
 second_stays None y y' m h e = h e
@@ -15,10 +16,7 @@ meaning_stays (item ∷ E) F id m e = second_stays (item_meaning item id) (meani
 
 lookup_stays : {A : Type 0} (look : Option Meaning → Option A) → look None ≡ None → (x x' : Option Meaning) → ((m : Meaning) → x ≡ Some m → x' ≡ Some m) →
     (a : A) → look x ≡ Some a → look x' ≡ Some a
-lookup_stays {A = A} look p None x' h a e = absurd (none_is_not_some a (sym p ∙ e))
-  where
-    none_is_not_some : (a : A) → ◌≡◌ {A = Option A} None (Some a) → ⊥
-    none_is_not_some a e = grind arith
+lookup_stays look p None x' h a e = some_is_not_none (sym p ∙ e)
 lookup_stays look p (Some m) x' h a e = ap look (h m refl) ∙ e
 
 pub more_declarations_grow : (E F : Environment) → Grows E (E ++ F)

@@ -1,5 +1,6 @@
--- The functions of a guarded Fix stay guarded under every substitution, and so under every renaming: outside
--- of the Fix all variables are plain, so every substitution fits the marks in the bodies.
+-- The functions of a guarded Fix stay guarded under every substitution, and so under every renaming: outside of the
+-- Fix all variables are plain, so every substitution fits the marks in the bodies. The typing of a Fix under a
+-- substitution needs it.
 use Rattle.std.proofs.Common.{◌≡◌, ℕ, zero, suc, ◌+◌, List, [], ◌∷◌, ◌++◌, length, length-append, map, Option, Some, refl, sym, ap, ap₂, ◌∙◌, arith}
 use Rattle.std.proofs.lemmas.List.{length-map, length-replicate}
 use Rattle.cic_terms.specs.Tree.{Tree, rel, ind}

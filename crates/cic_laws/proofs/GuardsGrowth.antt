@@ -1,5 +1,6 @@
 -- The guard of a Fix stays where the marks of the arguments of more constructors are known, and so where the
--- environment grows. One induction over the smaller terms, one over the fine ones.
+-- environment grows. One induction over the smaller terms, one over the fine ones. The typing of a Fix over a greater
+-- environment needs it.
 use Rattle.std.proofs.Common.{◌≡◌, ℕ, List, [], ◌∷◌, Option, Some, None, refl, ap₂, ◌∙◌}
 use Rattle.cic_terms.specs.Tree.{Tree, Children}
 use Rattle.cic_terms.specs.declared.name.GlobalId.{GlobalId}

@@ -1,5 +1,6 @@
--- Types that are strictly positive in a term stay so under a renaming, and under a substitution that puts in
--- terms without them: such a substitution makes a term mention none of them that it did not mention.
+-- Types that are strictly positive in a term stay so under a renaming, and under a substitution that puts in terms
+-- without them: such a substitution makes a term mention none of them that it did not mention. So a block that is
+-- positive stays so where its terms are lifted or put into others.
 use Rattle.std.proofs.Common.{ℕ, zero, suc, ◌-◌, Bool, true, false, if◌then◌else◌, ltb, eqb, List, [], ◌∷◌, map, Contains, inl, inr, ap, ◌∙◌}
 use Rattle.cic_terms.specs.Tree.{Tree, rel, node, Children, no_child, child, over, ind}
 use Rattle.cic_terms.specs.Lift.{lift_tree, subst_rel, subst_tree}

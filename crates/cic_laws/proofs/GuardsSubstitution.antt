@@ -1,6 +1,6 @@
--- The smaller terms stay smaller, and the fine terms fine, under a substitution that fits their marks. One
--- induction over the smaller terms, one over the fine ones: a variable with a mark stays a variable with that
--- mark, and a plain one becomes a term without functions, which is fine whatever its marks.
+-- The smaller terms stay smaller, and the fine terms fine, under a substitution that fits their marks. One induction
+-- over the smaller terms, one over the fine ones: a variable with a mark stays a variable with that mark, and a plain
+-- one becomes a term without functions, which is fine whatever its marks. The functions of a Fix stay guarded by it.
 use Rattle.std.proofs.Common.{◌≡◌, ◌≢◌, ℕ, ◌+◌, List, map, Option, sym, ap, ◌∙◌, arith}
 use Rattle.cic_terms.specs.Tree.{more, over, Tree, rel, Children}
 use Rattle.cic_terms.specs.Lift.{lift_tree, subst_rel, subst_tree}

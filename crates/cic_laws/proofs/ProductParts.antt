@@ -1,6 +1,7 @@
--- The parts of a product that has a type have sorts. A product may be typed as an argument of an inductive
--- type, by a derivation that has no smaller one of the product itself; so the induction is on derivations of
--- terms in which the product stands as the term, or as an argument, or as an argument of an argument.
+-- The parts of a product that has a type have sorts. A product may be typed as an argument of an inductive type, by a
+-- derivation that has no smaller one of the product itself; so the induction is on derivations of terms in which the
+-- product stands as the term, or as an argument, or as an argument of an argument. Validity and inference take
+-- products apart by it.
 use Rattle.std.proofs.Common.{List, [], ◌∷◌, ◌++◌}
 use Rattle.cic_terms.specs.Tree.{Tree, prod, app, ind}
 use Rattle.cic_rules.specs.Numbering.{Numbering}

@@ -1,6 +1,7 @@
--- A term that has a type has no free variable past its context: a substitution that keeps the variables of the
--- context keeps the term. By induction on the derivation; an argument of an inductive type stays since the type
--- applied does, and a function of a Fix stays since its type and its full body do.
+-- A term that has a type has no free variable past its context: a substitution that keeps the variables of the context
+-- keeps the term. By induction on the derivation; an argument of an inductive type stays since the type applied does,
+-- and a function of a Fix stays since its type and its full body do. So what an environment shows is closed, and a
+-- declared type may be lifted past any context.
 use Rattle.std.proofs.Common.{◌≡◌, ℕ, zero, suc, ◌+◌, ◌<◌, List, [], ◌∷◌, ◌++◌, length, map, Some, refl, sym, ap, ap₂, ◌∙◌, arith, length-append}
 use Rattle.std.proofs.lemmas.List.{length-map}
 use Rattle.cic_terms.specs.Tree.{FixF, Tree, rel, node, Children, child, prod, lam, app, ind, case}
@@ -16,6 +17,8 @@ use Rattle.cic_laws.proofs.Composition.{rename_as_substitute}
 use Rattle.cic_laws.proofs.LiftAndSubst.{lift_renames_variables, subst_substitutes_variables}
 use Rattle.cic_laws.proofs.Telescopes.{none_and_under, one_more_under, length_substitute_domains, substitute_function_parts, substitute_full_body}
 use Rattle.cic_laws.proofs.Typing.{inductive_in_two, substitute_products}
+use Rattle.cic_counted.proofs.Keys.{heads, tails}
+use Rattle.cic_counted.proofs.NotVoid.{domain_of}
 
 abbrev pub Keeps : ℕ → (ℕ → Tree) → Type 0
 Keeps k s = (x : ℕ) → x < k → s x ≡ rel x
@@ -53,14 +56,11 @@ apply_parts (u ∷ us) (u' ∷ us') f f' l e =
     let p = app_parts f f' u u' r.0 in
     (p.0, ap₂ ◌∷◌ p.1 r.1)
 
-tails_equal : (w w' : Tree) (xs ys : List Tree) → w ∷ xs ≡ w' ∷ ys → xs ≡ ys
-tails_equal w w' xs ys e = cc
-
 middles_equal : (us us' vs vs' : List Tree) (u u' : Tree) → length us ≡ length us' → us ++ u ∷ vs ≡ us' ++ u' ∷ vs' → u ≡ u'
 middles_equal [] [] vs vs' u u' l e = cc
 middles_equal [] (w ∷ us') vs vs' u u' l e = absurd (omega arith)
 middles_equal (w ∷ us) [] vs vs' u u' l e = absurd (omega arith)
-middles_equal (w ∷ us) (w' ∷ us') vs vs' u u' l e = middles_equal us us' vs vs' u u' (omega arith) (tails_equal w w' _ _ e)
+middles_equal (w ∷ us) (w' ∷ us') vs vs' u u' l e = middles_equal us us' vs vs' u u' (omega arith) (tails e)
 
 argument_stays : (id : GlobalId) (before after : List Tree) (u w : Tree) (s : ℕ → Tree) → w ≡ apply (ind id) (before ++ u ∷ after) → substitute s w ≡ w → substitute s u ≡ u
 argument_stays id before after u w s e h =
@@ -106,22 +106,16 @@ function_stays n f s e g =
     function_at f.k f.k (substitute_domains s f.domains) f.domains _ f.codomain _ f.body refl p.0 p.1
     (abstractions_body (lift_domains 0 n f.domains) (lift_domains 0 n f.domains) (substitute_function n s f).body f.body refl q)
 
-heads_equal : (w w' : Tree) (xs ys : List Tree) → w ∷ xs ≡ w' ∷ ys → w ≡ w'
-heads_equal w w' xs ys e = cc
-
 functions_stay : (n : ℕ) (fs : List Function) (s : ℕ → Tree) → map (substitute s) (function_types fs) ≡ function_types fs → map (substitute (substitution_under n s)) (full_bodies n fs) ≡ full_bodies n fs → map (substitute_function n s) fs ≡ fs
 functions_stay n [] s e g = refl
 functions_stay n (f ∷ fs) s e g =
-    ap₂ ◌∷◌ (function_stays n f s (heads_equal _ _ _ _ e) (heads_equal _ _ _ _ g)) (functions_stay n fs s (tails_equal _ _ _ _ e) (tails_equal _ _ _ _ g))
+    ap₂ ◌∷◌ (function_stays n f s (heads e) (heads g)) (functions_stay n fs s (tails e) (tails g))
 
 match_stays : (id : GlobalId) (n : ℕ) (p v : Tree) (branches : Children) (s : ℕ → Tree) → substitute (substitution_under (n + 1) s) p ≡ p → substitute s v ≡ v → substitute_children s branches ≡ branches → substitute s (case id n p v branches) ≡ case id n p v branches
 unfolding substitute substitution_under
 match_stays id n p v branches s e e' e'' =
     let f : substitute (substitution_under (0 + (n + 1)) s) p ≡ p = ap (λ z. substitute z p) (none_and_under (n + 1) s) ∙ e in
     cc (f, e', e'')
-
-domain_stays : (a a' b b' : Tree) → prod a b ≡ prod a' b' → a ≡ a'
-domain_stays a a' b b' e = cc
 
 mutual
   unfolding substitute substitution_under
@@ -134,7 +128,7 @@ mutual
   typed_stays E N (T.Typed.constructor p e) s h = refl
   typed_stays E N (T.Typed.product {G = G} p q z) s h = cc (typed_stays E N p s h, typed_stays E N q (substitution_under_one s) (keeps_under_one (length G) s h))
   typed_stays E N (T.Typed.abstraction {G = G} {a = a} {t = t} p q) s h =
-      ap₂ lam (domain_stays _ _ _ _ (typed_stays E N p s h)) (typed_stays E N q (substitution_under_one s) (keeps_under_one (length G) s h))
+      ap₂ lam (domain_of (typed_stays E N p s h)) (typed_stays E N q (substitution_under_one s) (keeps_under_one (length G) s h))
   typed_stays E N (T.Typed.application p q e) s h = cc (typed_stays E N p s h, typed_stays E N q s h)
   typed_stays E N (T.Typed.local_definition {G = G} o p q e) s h = cc (typed_stays E N o s h, typed_stays E N p s h, typed_stays E N q (substitution_under_one s) (keeps_under_one (length G) s h))
   typed_stays E N (T.Typed.matching {G = G} {id = id} {n = n} {p = p} {v = v} {branches = branches} _ _ domains _ _ _ _ _ _ tv _ _ ld tp _ br _) s h =

@@ -1,6 +1,6 @@
--- A step stays a step under each substitution of a kind, or vanishes where a variable's body was put in for
--- the variable. By induction on the step: at its root by what the substitution does to the terms that the rule
--- names, inside by going under the binders.
+-- A step stays a step under each substitution of a kind, or vanishes where a variable's body was put in for the
+-- variable. By induction on the step: at its root by what the substitution does to the terms that the rule names,
+-- inside by going under the binders. Conversion and typing under a substitution rest on it.
 use Rattle.std.proofs.Common.{◌≡◌, ℕ, ◌+◌, [], ◌∷◌, ◌++◌, length, map, sym, ap, ◌∙◌, inl, inr, ◌⊎◌}
 use Rattle.std.proofs.lemmas.List.{length-map, map-append}
 use Rattle.cic_terms.specs.Tree.{Former, Binders, over, Tree, rel, node, Children, child, let_in, ctor}

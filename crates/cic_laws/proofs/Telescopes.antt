@@ -119,7 +119,7 @@ pub length_substitute_domains : (as_ : List Tree) (s : ℕ → Tree) → length 
 length_substitute_domains [] s = refl
 length_substitute_domains (a ∷ as_) s = ap suc (length_substitute_domains as_ (substitution_under_one s))
 
-length_lift_domains : (as_ : List Tree) (place n : ℕ) → length (lift_domains place n as_) ≡ length as_
+pub length_lift_domains : (as_ : List Tree) (place n : ℕ) → length (lift_domains place n as_) ≡ length as_
 length_lift_domains [] place n = refl
 length_lift_domains (a ∷ as_) place n = ap suc (length_lift_domains as_ (place + 1) n)
 

@@ -1,6 +1,6 @@
 -- The two kinds of substitutions keep typing too: renamings that keep the types of variables, and terms that
 -- have the types of the variables that they are put in for. That the second goes under binders rests on the first.
-use Rattle.std.proofs.Common.{◌≡◌, ℕ, zero, suc, ◌+◌, [], ◌∷◌, Option, Some, None, refl, sym, ap, ◌∙◌, arith}
+use Rattle.std.proofs.Common.{◌≡◌, ℕ, zero, suc, ◌+◌, [], ◌∷◌, Some, refl, sym, ap, ◌∙◌, arith}
 use Rattle.cic_terms.specs.Tree.{TreeSort, Tree, rel}
 use Rattle.cic_terms.specs.Lift.{lift_tree, subst_tree}
 use Rattle.cic_rules.specs.Numbering.{Numbering}
@@ -15,6 +15,7 @@ use Rattle.cic_laws.proofs.LiftAndSubst.{lift_by_one, subst_innermost, substitut
 use Rattle.cic_laws.proofs.Contexts.{map_tree, substitute_entry, lift_past_one_more}
 use Rattle.cic_laws.proofs.Weakening.{Renaming, substitute_by_renaming, rename_past_binder, renaming_goes_under, renaming_unfolds, renamings, as_renaming, renames_past_entry, renames_nothing, grows_alike, substitution_goes_under, substitutions, substitutes_innermost, innermost_past_binder}
 use Rattle.cic_laws.proofs.Typing.{TypedKind, typed_under, eliminated_under}
+use Rattle.cic_laws.proofs.EvaluationReadings.{some_inj, some_is_not_none}
 
 -- The types of variables under one more entry
 type_here : (G : Context) (e : Entry) (a : Tree) → e.type ≡ Some a → HasType (e ∷ G) zero (rename suc a)
@@ -122,13 +123,10 @@ typed_substitution_goes_under E N s G D e h = record {
   types = substitutes_types_under E N s G D e h;
 }
 
-none_is_not_some : (a : Tree) → ◌≡◌ {A = Option Tree} None (Some a) → ⊥
-none_is_not_some a e = grind arith
-
 pub typed_substitution_of_nothing : (E : Environment) (N : Numbering) → SubstitutesTypedContext E N rel [] []
 typed_substitution_of_nothing E N = record {
-  context = record { bodies = λ x t a. absurd (none_is_not_some a.body a.stands); outside = λ k. refl };
-  types = λ x t a. absurd (none_is_not_some a.type a.stands);
+  context = record { bodies = λ x t a. some_is_not_none a.stands; outside = λ k. refl };
+  types = λ x t a. some_is_not_none a.stands;
 }
 
 abbrev pub typed_substitutions : (E E' : Environment) (N : Numbering) → Grows E E' → TypedKind E E' N
@@ -157,23 +155,22 @@ innermost_types E N G e u h zero t a =
 innermost_types E N G e u h (suc x) t a =
     let c = from_type_there G e x t a in rw (c.2, innermost_past_binder u c.0) (T.Typed.variable c.1.stands c.1.is_lifted)
 
-some_is_injective : (a b : Tree) → Some a ≡ Some b → a ≡ b
-some_is_injective a b e = cc
+pub substitutes_typed_term : (E : Environment) (N : Numbering) (G : Context) (a u : Tree) → Typed E N G u a → SubstitutesTypedContext E N (for_innermost u) (assumed a ∷ G) G
+substitutes_typed_term E N G a u q = record {
+  context = substitutes_innermost E G (assumed a) u (λ c e. grind arith);
+  types = innermost_types E N G (assumed a) u (λ c e. rw (← some_inj e) q);
+}
 
 pub typed_at_assumed : (E : Environment) (N : Numbering) (G : Context) (a u t b : Tree) → Typed E N (assumed a ∷ G) t b → Typed E N G u a → Typed E N G (subst_tree 0 u t) (subst_tree 0 u b)
 typed_at_assumed E N G a u t b p q =
     rw (subst_innermost u t, subst_innermost u b)
-    (typed_substituted E E N (for_innermost u) (assumed a ∷ G) G t b (grows_alike E)
-    (record {
-      context = substitutes_innermost E G (assumed a) u (λ c e. grind arith);
-      types = innermost_types E N G (assumed a) u (λ c e. rw (← some_is_injective a c e) q);
-    }) p)
+    (typed_substituted E E N (for_innermost u) (assumed a ∷ G) G t b (grows_alike E) (substitutes_typed_term E N G a u q) p)
 
 pub typed_at_defined : (E : Environment) (N : Numbering) (G : Context) (a u t b : Tree) → Typed E N (defined u a ∷ G) t b → Typed E N G u a → Typed E N G (subst_tree 0 u t) (subst_tree 0 u b)
 typed_at_defined E N G a u t b p q =
     rw (subst_innermost u t, subst_innermost u b)
     (typed_substituted E E N (for_innermost u) (defined u a ∷ G) G t b (grows_alike E)
     (record {
-      context = substitutes_innermost E G (defined u a) u (λ c e. some_is_injective u c e);
-      types = innermost_types E N G (defined u a) u (λ c e. rw (← some_is_injective a c e) q);
+      context = substitutes_innermost E G (defined u a) u (λ c e. some_inj e);
+      types = innermost_types E N G (defined u a) u (λ c e. rw (← some_inj e) q);
     }) p)

@@ -1,6 +1,7 @@
--- Typing goes through each substitution of a kind that keeps the types of variables. By induction on the
--- derivation, mutual with branches, elimination and lists: each rule holds again of the terms substituted, since a
--- substitution goes through the products, telescopes and Fixes that the rule names.
+-- Typing goes through each substitution of a kind that keeps the types of variables. By induction on the derivation,
+-- mutual with branches, elimination and lists: each rule holds again of the terms substituted, since a substitution
+-- goes through the products, telescopes and Fixes that the rule names. Weakening and substitution are this law for the
+-- two kinds of substitutions.
 use Rattle.std.proofs.Common.{◌≡◌, ℕ, zero, suc, ◌+◌, List, [], ◌∷◌, ◌++◌, length, map, refl, sym, ap, ap₂, ◌∙◌, arith, length-append}
 use Rattle.std.proofs.lemmas.List.{length-map, map-append}
 use Rattle.cic_terms.specs.Tree.{TreeSort, over, Tree, rel, Children, sort, prod, ind, ctor}
@@ -41,12 +42,12 @@ instantiated_under (one_argument {b = b} {u = u} e p) s = one_argument (ap (subs
 instantiated_at : {us : List Tree} {b : Tree} (a a' : Tree) → a ≡ a' → Instantiated a us b → Instantiated a' us b
 instantiated_at a a' e h = rw (← e) h
 
-good_extended : (E E' : Environment) (K : Kind E E') (as_ : List Tree) (s : ℕ → Tree) (G D : Context) → K.Good s G D → K.Good (substitution_under (length as_) s) (extend G as_) (extend D (substitute_domains s as_))
+pub good_extended : (E E' : Environment) (K : Kind E E') (as_ : List Tree) (s : ℕ → Tree) (G D : Context) → K.Good s G D → K.Good (substitution_under (length as_) s) (extend G as_) (extend D (substitute_domains s as_))
 unfolding substitution_under
 good_extended E E' K [] s G D h = h
 good_extended E E' K (a ∷ as_) s G D h = good_extended E E' K as_ (substitution_under_one s) (assumed a ∷ G) (assumed (substitute s a) ∷ D) (K.goes_under s G D (assumed a) h)
 
-variables_under : (n : ℕ) (s : ℕ → Tree) → map (substitute (substitution_under n s)) (variables n) ≡ variables n
+pub variables_under : (n : ℕ) (s : ℕ → Tree) → map (substitute (substitution_under n s)) (variables n) ≡ variables n
 unfolding rename substitute substitution_under substitution_under_one
 variables_under zero s = refl
 variables_under (suc n) s = ap₂ ◌∷◌ (outermost n s) (variables_under n (substitution_under_one s))
@@ -56,7 +57,7 @@ variables_under (suc n) s = ap₂ ◌∷◌ (outermost n s) (variables_under n (
         let e : n ≡ 0 + n = omega arith in
         ap (substitution_under n (substitution_under_one s)) e ∙ past_binders n (substitution_under_one s) 0 ∙ ap rel (sym e)
 
-lift_all_under : (n : ℕ) (us : List Tree) (s : ℕ → Tree) → map (substitute (substitution_under n s)) (lift_all n us) ≡ lift_all n (map (substitute s) us)
+pub lift_all_under : (n : ℕ) (us : List Tree) (s : ℕ → Tree) → map (substitute (substitution_under n s)) (lift_all n us) ≡ lift_all n (map (substitute s) us)
 unfolding substitution_under
 lift_all_under n [] s = refl
 lift_all_under n (u ∷ us) s = ap₂ ◌∷◌ (substitute_lift 0 n u s) (lift_all_under n us s)
@@ -131,10 +132,7 @@ all_sorted_at E N G ts ts' f h = rw (← f) h
 domains_unchanged : (as_ : List Tree) (s : ℕ → Tree) → ((x : ℕ) → s x ≡ rel x) → substitute_domains s as_ ≡ as_
 unfolding substitution_under
 domains_unchanged [] s h = refl
-domains_unchanged (a ∷ as_) s h = ap₂ ◌∷◌ (substitute_identity a s h) (domains_unchanged as_ (substitution_under_one s) (unchanged_under_one s h))
-  where
-    unchanged_under_one : (s : ℕ → Tree) → ((x : ℕ) → s x ≡ rel x) → (x : ℕ) → substitution_under_one s x ≡ rel x
-    unchanged_under_one s h = identity_under 1 s h
+domains_unchanged (a ∷ as_) s h = ap₂ ◌∷◌ (substitute_identity a s h) (domains_unchanged as_ (substitution_under_one s) (identity_under 1 s h))
 
 propositions_at : (E : Environment) (N : Numbering) (G G' : Context) (as_ bs : List Tree) → G ≡ G' → as_ ≡ bs → Propositions E N G as_ → Propositions E N G' bs
 propositions_at E N G G' as_ bs e f h = rw (← e, ← f) h

@@ -1,0 +1,17 @@
+//! The kernel law: what the check of one declaration accepts is right by the rules.
+ghost use Rattle.std.specs.Prelude.{◌≡◌, ℕ, [], ◌∷◌, ◌++◌};
+ghost use Rattle.cic_rules.specs.Numbering.{Numbering, MeetsAll};
+ghost use Rattle.cic_rules.specs.Environment.{Environment, Declaration, declared, environment_ids};
+ghost use Rattle.cic_rules.specs.Formed.{Distinct, Formed};
+ghost use Rattle.cic_counted.specs.Checking.{Found, accepts, check_declaration};
+ghost use Rattle.cic_laws.specs.ProgramTerms.{ProgramEnvironment};
+
+/// A declaration that is accepted over a formed environment may be appended to it: what it makes is formed, at
+/// every numbering that meets the constraints found, those that everyone sees and those of an opaque body. The
+/// environment shows terms of the program only, and so does what is made, so this holds of each further
+/// declaration; over a universe of a derivation's own the check would not be right.
+#[tactic(auto, using(crate::proofs::KernelJudgement::accepted_is_formed, crate::proofs::KernelProgram::accepted_keeps_program_environment))]
+pub fn accepted_declarations_are_right()
+    ensures formed { (E : Environment) (N : Numbering) (d : Declaration) (budget : ℕ) (found : Found) → Formed N E → ProgramEnvironment E → Distinct (environment_ids (E ++ declared d ∷ [])) → check_declaration E d budget ≡ accepts found → MeetsAll N found.visible → MeetsAll N found.proofs → Formed N (E ++ declared d ∷ []) }
+    ensures of_the_program { (E : Environment) (d : Declaration) (budget : ℕ) (found : Found) → ProgramEnvironment E → check_declaration E d budget ≡ accepts found → ProgramEnvironment (E ++ declared d ∷ []) }
+{}
