@@ -13,14 +13,14 @@ and_both : (a b : Bool) → (a && b) ≡ true → (a ≡ true) × (b ≡ true)
 and_both true b h = (refl, h)
 and_both false b h = absurd (cc)
 
-and_true : (a b : Bool) → a ≡ true → b ≡ true → (a && b) ≡ true
+pub and_true : (a b : Bool) → a ≡ true → b ≡ true → (a && b) ≡ true
 and_true true b h k = k
 and_true false b h k = absurd (cc)
 
-number_same : (a b : ℕ) → nat_eq a b ≡ true → a ≡ b
+pub number_same : (a b : ℕ) → nat_eq a b ≡ true → a ≡ b
 number_same a b h = grind (arith, common_steps)
 
-number_self : (a : ℕ) → nat_eq a a ≡ true
+pub number_self : (a : ℕ) → nat_eq a a ≡ true
 number_self a = grind (arith, common_steps)
 
 list_same : (xs ys : List ℕ) → same_list nat_eq xs ys ≡ true → xs ≡ ys
@@ -52,10 +52,10 @@ part_self Declared = refl
 part_self Visible = refl
 part_self Proof = refl
 
-abbrev make_name : List ℕ → List ℕ → Part → ℕ → LevelName
+abbrev pub make_name : List ℕ → List ℕ → Part → ℕ → LevelName
 make_name lib owner part number = record { lib = lib; owner = owner; part = part; number = number }
 
-name_parts : (a b : LevelName) → a.lib ≡ b.lib → a.owner ≡ b.owner → a.part ≡ b.part → a.number ≡ b.number →
+pub name_parts : (a b : LevelName) → a.lib ≡ b.lib → a.owner ≡ b.owner → a.part ≡ b.part → a.number ≡ b.number →
     make_name a.lib a.owner a.part a.number ≡ make_name b.lib b.owner b.part b.number
 name_parts a b lib owner part number = cc
 
@@ -78,7 +78,7 @@ name_self a =
     (part_self a.part))
     (number_self a.number)
 
-true_or_false : (b : Bool) → (b ≡ true) ⊎ (b ≡ false)
+pub true_or_false : (b : Bool) → (b ≡ true) ⊎ (b ≡ false)
 true_or_false true = inl refl
 true_or_false false = inr refl
 

@@ -184,7 +184,7 @@ part_left walk ks ds h t m = h t (Contains-append_left ks ds t m)
 part_right : (walk ks ds : List Tagged) → IsPartOf (ks ++ ds) walk → IsPartOf ds walk
 part_right walk ks ds h t m = h t (Contains-append_right ks ds t m)
 
-one_member : (e t : Tagged) → Contains (e ∷ []) t → e ≡ t
+pub one_member : (e t : Tagged) → Contains (e ∷ []) t → e ≡ t
 one_member e t m = by m.0 m.1 m.2
   where
     by : (k : ℕ) → k < 1 → slice_index_or (e ∷ []) k t ≡ t → e ≡ t

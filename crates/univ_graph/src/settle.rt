@@ -1,0 +1,168 @@
+//! How a constraint is taken, between places that are there: with the numbers as they are, with raised ones, or not at all.
+ghost use Rattle.std.specs.Prelude.{◌≡◌, ℕ, ◌<◌, ◌≤◌, ◌++◌, ◌∷◌, [], length, true, IfOk, IfErr, OnOk, OnErr, Some, take, List, IsTrue, ◌↔◌, ◌+◌, ◌^◌};
+ghost use Rattle.cic_rules.specs.Numbering.{MeetsAt};
+ghost use Rattle.cic_terms.specs.declared.level.Level.{Level};
+ghost use Rattle.univ_graph.specs.Kept.{AreStepsAmong};
+ghost use Rattle.univ_graph.specs.Walks.{IsClosedAt, has_strict};
+ghost use Rattle.univ_graph.specs.declared.cycle.Tagged.{Tagged};
+ghost use Rattle.univ_graph.specs.Places.{level_at};
+ghost use Rattle.univ_graph.specs.Boards.{IsSound, IsConflictWalk, IsConflictAmong, AreRaised, at, tagged, least_of, number_bound};
+
+use crate::board::{Board, Row};
+use crate::conflict::{strict_step, walk_at_set};
+use crate::cycle::{Cycle, Tagged};
+use crate::fault::GraphFault;
+use crate::raise::{fit, raise};
+use cic_terms::{Level, NoMemory};
+use std::alloc::Global;
+
+fn meets_at(strict: bool, left: u32, right: u32) -> bool
+    ensures { IsTrue result ↔ MeetsAt strict left right }
+{
+    if strict { left < right } else { left <= right }
+}
+
+fn least_of(strict: bool, left: u32) -> u32
+    requires { left + 1 < 2 ^ 32 }
+    ensures { result ≡ least_of strict left }
+{
+    if strict { left + 1 } else { left }
+}
+
+fn conflict_of(alloc: Global, start: &Level, walk: Result<Vec<Tagged>, NoMemory>) -> GraphFault
+    requires { IfOk walk (λ w. IsClosedAt start.now w.items × (has_strict w.items ≡ true)) }
+    ensures { (all : List Tagged) → IfOk walk (λ w. AreStepsAmong all w.items) → IsConflictAmong all result }
+{
+    let Ok(walk) = walk else {
+        return GraphFault::NoMemory;
+    };
+    match Cycle::of_walk(alloc, start, &walk) {
+        Ok(cycle) => GraphFault::Conflict(cycle),
+        Err(_) => GraphFault::NoMemory,
+    }
+}
+
+impl Board {
+    fn raised(
+        &self,
+        alloc: Global,
+        left: usize,
+        right: usize,
+        asked: &Tagged,
+    ) -> Result<Vec<u32>, GraphFault>
+        requires sound { IsSound self.now }
+        requires left { level_at self.now.names left ≡ Some asked.now.constraint.left }
+        requires right { level_at self.now.names right ≡ Some asked.now.constraint.right }
+        requires few { length self.now.names + 1 ≤ number_bound }
+        requires not_met { MeetsAt asked.now.constraint.strict (at self.now.numbers.items left) (at self.now.numbers.items right) → ⊥ }
+        ensures raised { IfOk result (λ v. AreRaised self.now left right asked.now.constraint.strict v.items) }
+        ensures conflict { IfErr result (IsConflictAmong (tagged self.now.rows.items ++ asked.now ∷ [])) }
+    {
+        if right == 0 {
+            let walk = walk_at_set(alloc, asked);
+            return Err(conflict_of(alloc, &Level::Set, walk));
+        }
+        let strict = asked.constraint.strict;
+        let Ok(spread) = self.spread(alloc, right, strict) else {
+            return Err(GraphFault::NoMemory);
+        };
+        if let Some(found) = strict_step(&spread.steps, left) {
+            let walk = self.walk_back(alloc, &spread, found, asked, left, right);
+            return Err(conflict_of(alloc, &asked.constraint.left, walk));
+        }
+        let least = least_of(strict, self.numbers[left]);
+        let Ok(numbers) = raise(alloc, &self.numbers, &spread.marks, least) else {
+            return Err(GraphFault::NoMemory);
+        };
+        match fit(alloc, numbers) {
+            Ok(numbers) => Ok(numbers),
+            Err(_) => Err(GraphFault::NoMemory),
+        }
+    }
+
+    fn put(&mut self, left: usize, right: usize, asked: Tagged) -> Result<(), NoMemory>
+        requires sound { IsSound self.old }
+        requires left { level_at self.old.names left ≡ Some asked.constraint.left }
+        requires right { level_at self.old.names right ≡ Some asked.constraint.right }
+        requires met { MeetsAt asked.constraint.strict (at self.old.numbers.items left) (at self.old.numbers.items right) }
+        ensures sound { IsSound self.new }
+        ensures names { self.new.names ≡ self.old.names }
+        ensures taken { OnOk result (tagged self.new.rows.items ≡ tagged self.old.rows.items ++ asked ∷ []) }
+        ensures rows { OnErr result (self.new.rows.items ≡ self.old.rows.items) }
+        ensures numbers { self.new.numbers.items ≡ self.old.numbers.items }
+    {
+        let row = Row {
+            left,
+            right,
+            tagged: asked,
+        };
+        self.append(row)
+    }
+
+    fn put_raised(
+        &mut self,
+        left: usize,
+        right: usize,
+        asked: Tagged,
+        numbers: Vec<u32>,
+    ) -> Result<(), NoMemory>
+        requires sound { IsSound self.old }
+        requires left { level_at self.old.names left ≡ Some asked.constraint.left }
+        requires right { level_at self.old.names right ≡ Some asked.constraint.right }
+        requires raised { AreRaised self.old left right asked.constraint.strict numbers.items }
+        ensures sound { IsSound self.new }
+        ensures names { self.new.names ≡ self.old.names }
+        ensures taken { OnOk result (tagged self.new.rows.items ≡ tagged self.old.rows.items ++ asked ∷ []) }
+        ensures rows { OnErr result (self.new.rows.items ≡ self.old.rows.items) }
+        ensures numbers { OnErr result (self.new.numbers.items ≡ self.old.numbers.items) }
+    {
+        let row = Row {
+            left,
+            right,
+            tagged: asked,
+        };
+        match self.append(row) {
+            Ok(()) => {
+                self.numbers = numbers;
+                Ok(())
+            }
+            Err(_) => Err(NoMemory),
+        }
+    }
+
+    /// Takes a constraint between places.
+    pub fn settle(
+        &mut self,
+        alloc: Global,
+        left: usize,
+        right: usize,
+        asked: Tagged,
+    ) -> Result<(), GraphFault>
+        requires sound { IsSound self.old }
+        requires left { level_at self.old.names left ≡ Some asked.constraint.left }
+        requires right { level_at self.old.names right ≡ Some asked.constraint.right }
+        requires few { length self.old.names + 1 ≤ number_bound }
+        ensures sound { IsSound self.new }
+        ensures names { self.new.names ≡ self.old.names }
+        ensures taken { OnOk result (tagged self.new.rows.items ≡ tagged self.old.rows.items ++ asked ∷ []) }
+        ensures rows { OnErr result (self.new.rows.items ≡ self.old.rows.items) }
+        ensures numbers { OnErr result (self.new.numbers.items ≡ self.old.numbers.items) }
+        ensures conflict { IfErr result (IsConflictAmong (tagged self.old.rows.items ++ asked ∷ [])) }
+    {
+        if meets_at(
+            asked.constraint.strict,
+            self.numbers[left],
+            self.numbers[right],
+        ) {
+            return match self.put(left, right, asked) {
+                Ok(()) => Ok(()),
+                Err(_) => Err(GraphFault::NoMemory),
+            };
+        }
+        let numbers = self.raised(alloc, left, right, &asked)?;
+        match self.put_raised(left, right, asked, numbers) {
+            Ok(()) => Ok(()),
+            Err(_) => Err(GraphFault::NoMemory),
+        }
+    }
+}
