@@ -1,12 +1,13 @@
--- Laws of the grammar: a text is read in one way, and what follows where no further sentence begins.
-use Rattle.std.proofs.Common.{ℕ, List, [], ◌∷◌, ◌++◌, ◌≡◌, ◌≤◌, ◌<◌, ◌+◌, length, refl, ap, subst, ◌∙◌, append-nil, arith}
+-- Laws of the grammar: a text is read in one way, and what follows where no further sentence begins. By them what the
+-- parser finds is all that a source says, and the place that it answers is the only one.
+use Rattle.std.proofs.Common.{ℕ, List, [], ◌∷◌, ◌++◌, ◌≡◌, ◌≤◌, ◌<◌, ◌+◌, length, refl, ap, ap₂, sym, subst, ◌∙◌, append-nil, arith}
 use Rattle.std.specs.Prelude.{codes}
-use Rattle.gal_parser.specs.Tokens.{after_blanks, SpellsWord, SpellsIdentifier, SpellsColon, SpellsStop}
-use Rattle.gal_parser.specs.Grammar.{RawTerm, Sentence, axiom_sentence, SpellsTerm, spells_prop, SpellsSentence, spells_axiom, SpellsSentences, no_sentence, one_more, longest_source, Reads, NotYetAt, too_long, unread}
+use Rattle.gal_parser.specs.Tokens.{after_blanks, SpellsWord, SpellsIdentifier, SpellsColon, SpellsStop, SpellsSymbol}
+use Rattle.gal_parser.specs.Grammar.{RawTerm, name, for_all, arrow, Sentence, axiom_sentence, SpellsTerm, spells_for_all, spells_arrow, spells_atom, SpellsAtom, spells_prop, spells_name, spells_group, deepest_nesting, SpellsSentence, spells_axiom, SpellsSentences, no_sentence, one_more, longest_source, Reads, NotYetAt, too_long, unread}
 use Rattle.gal_parser.specs.Answers.{Lacks, TakesAll}
 use Rattle.gal_parser.specs.declared.lexer.Fault.{Fault}
 use Rattle.gal_parser.specs.declared.lexer.Fault.TheVariants.{NoMatch, NoMemory}
-use Rattle.gal_parser.proofs.TokenLaws.{one_word, one_identifier, one_colon, one_stop, no_word_at_end, blanks_shorten, word_shortens, colon_shortens, stop_shortens}
+use Rattle.gal_parser.proofs.TokenLaws.{one_word, one_identifier, one_colon, one_stop, word_at, identifier_at, colon_at, symbol_at, no_identifier_at, no_word_at_end, no_word_at_parenthesis, blanks_shorten, word_shortens, colon_shortens, stop_shortens, symbol_leaves}
 
 -- what lacks a part lacks the whole
 pub lacks_part : {Y Z : Type 0} {R : List ℕ → Y → Type 0} {W : List ℕ → Z → Type 0} (e : Fault) → Lacks e R →
@@ -14,16 +15,67 @@ pub lacks_part : {Y Z : Type 0} {R : List ℕ → Y → Type 0} {W : List ℕ �
 lacks_part NoMatch none part = λ r z w. let (q, y, h) = part r z w in none q y h
 lacks_part NoMemory none part = tt
 
--- a text begins with one term at the most
-pub one_term : {s r r' : List ℕ} {t t' : RawTerm} → SpellsTerm s r t → SpellsTerm s r' t' → (t ≡ t') × (r ≡ r')
-one_term (spells_prop h) (spells_prop h') = (refl, (one_word h h').1)
+-- products of equal parts are equal
+same_product : {x x' : List ℕ} {t t' u u' : RawTerm} → x ≡ x' → t ≡ t' → u ≡ u' → for_all x t u ≡ for_all x' t' u'
+same_product p q r = (cc)
+
+-- no atom begins where the word forall stands
+pub no_atom_at_forall : {room : ℕ} {s s' a r : List ℕ} {t : RawTerm} → s ≡ s' → SpellsWord (after_blanks s) a (codes "forall") → SpellsAtom room s' r t → ⊥
+no_atom_at_forall e h (spells_prop h') = let size = ap length (word_at (ap after_blanks e) h h').0 in omega arith
+no_atom_at_forall e h (spells_name h') = no_identifier_at (ap after_blanks e) refl h h'
+no_atom_at_forall e h (spells_group h1 h2 h3) = no_word_at_parenthesis (ap after_blanks (sym e)) h1 h
+
+-- equal texts begin with one term at the most, and with one atom
+mutual
+  pub one_term_at : {m n : ℕ} {s s' r r' : List ℕ} {t t' : RawTerm} → s ≡ s' → SpellsTerm m s r t → SpellsTerm n s' r' t' → (t ≡ t') × (r ≡ r')
+  one_term_at e (spells_for_all h1 h2 h3 h4 h5 h6) (spells_for_all k1 k2 k3 k4 k5 k6) =
+      let word = word_at (ap after_blanks e) h1 k1 in
+      let binder = identifier_at (ap after_blanks word.1) h2 k2 in
+      let colon = colon_at (ap after_blanks binder.1) h3 k3 in
+      let type = one_term_at colon h4 k4 in
+      let comma = symbol_at (codes ",") (ap after_blanks type.1) h5 k5 in
+      let body = one_term_at comma h6 k6 in
+      (same_product binder.0 type.0 body.0, body.1)
+  one_term_at e (spells_for_all h1 h2 h3 h4 h5 h6) (spells_arrow k1 k2 k3) = absurd (no_atom_at_forall e h1 k1)
+  one_term_at e (spells_for_all h1 h2 h3 h4 h5 h6) (spells_atom k1 k2) = absurd (no_atom_at_forall e h1 k1)
+  one_term_at e (spells_arrow h1 h2 h3) (spells_for_all k1 k2 k3 k4 k5 k6) = absurd (no_atom_at_forall (sym e) k1 h1)
+  one_term_at e (spells_arrow h1 h2 h3) (spells_arrow k1 k2 k3) =
+      let from = one_atom_at e h1 k1 in
+      let to = one_term_at (symbol_at (codes "->") (ap after_blanks from.1) h2 k2) h3 k3 in
+      (ap₂ arrow from.0 to.0, to.1)
+  one_term_at e (spells_arrow {b = b} h1 h2 h3) (spells_atom k1 k2) =
+      absurd (k2 b (subst (λ z. SpellsSymbol (codes "->") (after_blanks z) b) (one_atom_at e h1 k1).1 h2))
+  one_term_at e (spells_atom h1 h2) (spells_for_all k1 k2 k3 k4 k5 k6) = absurd (no_atom_at_forall (sym e) k1 h1)
+  one_term_at e (spells_atom h1 h2) (spells_arrow {b = b} k1 k2 k3) =
+      absurd (h2 b (subst (λ z. SpellsSymbol (codes "->") (after_blanks z) b) (sym (one_atom_at e h1 k1).1) k2))
+  one_term_at e (spells_atom h1 h2) (spells_atom k1 k2) = one_atom_at e h1 k1
+
+  pub one_atom_at : {m n : ℕ} {s s' r r' : List ℕ} {t t' : RawTerm} → s ≡ s' → SpellsAtom m s r t → SpellsAtom n s' r' t' → (t ≡ t') × (r ≡ r')
+  one_atom_at e (spells_prop h) (spells_prop k) = (refl, (word_at (ap after_blanks e) h k).1)
+  one_atom_at e (spells_prop h) (spells_name k) = absurd (no_identifier_at (ap after_blanks e) refl h k)
+  one_atom_at e (spells_prop h) (spells_group k1 k2 k3) = absurd (no_word_at_parenthesis (ap after_blanks (sym e)) k1 h)
+  one_atom_at e (spells_name h) (spells_prop k) = absurd (no_identifier_at (ap after_blanks (sym e)) refl k h)
+  one_atom_at e (spells_name h) (spells_name k) = let x = identifier_at (ap after_blanks e) h k in (ap name x.0, x.1)
+  one_atom_at e (spells_name h) (spells_group k1 k2 k3) = absurd (no_word_at_parenthesis (ap after_blanks (sym e)) k1 h.word)
+  one_atom_at e (spells_group h1 h2 h3) (spells_prop k) = absurd (no_word_at_parenthesis (ap after_blanks e) h1 k)
+  one_atom_at e (spells_group h1 h2 h3) (spells_name k) = absurd (no_word_at_parenthesis (ap after_blanks e) h1 k.word)
+  one_atom_at e (spells_group h1 h2 h3) (spells_group k1 k2 k3) =
+      let inner = one_term_at (symbol_at (codes "(") (ap after_blanks e) h1 k1) h2 k2 in
+      (inner.0, symbol_at (codes ")") (ap after_blanks inner.1) h3 k3)
+
+-- a text begins with one term and one atom at the most
+pub one_term : {m n : ℕ} {s r r' : List ℕ} {t t' : RawTerm} → SpellsTerm m s r t → SpellsTerm n s r' t' → (t ≡ t') × (r ≡ r')
+one_term h k = one_term_at refl h k
+
+pub one_atom : {m n : ℕ} {s r r' : List ℕ} {t t' : RawTerm} → SpellsAtom m s r t → SpellsAtom n s r' t' → (t ≡ t') × (r ≡ r')
+one_atom h k = one_atom_at refl h k
 
 -- the parts of a sentence from a token on: the stop, the term, the colon, the name, the word Axiom
 abbrev pub FromStop : List ℕ → List ℕ → List ℕ → RawTerm → Sentence → Type 0
 FromStop d r x t c = SpellsStop (after_blanks d) r × (axiom_sentence x t ≡ c)
 
 abbrev pub FromTerm : List ℕ → List ℕ → List ℕ → Sentence → Type 0
-FromTerm k r x c = (d : List ℕ) × (t : RawTerm) × SpellsTerm k d t × FromStop d r x t c
+FromTerm k r x c = (d : List ℕ) × (t : RawTerm) × SpellsTerm deepest_nesting k d t × FromStop d r x t c
 
 abbrev pub FromColon : List ℕ → List ℕ → List ℕ → Sentence → Type 0
 FromColon b r x c = (k : List ℕ) × SpellsColon (after_blanks b) k × FromTerm k r x c
@@ -52,7 +104,7 @@ after_name a {b = b} {r = r} {c = c} h (b', x', h', rest) =
 pub after_colon : (b : List ℕ) {k r x : List ℕ} {c : Sentence} → SpellsColon (after_blanks b) k → FromColon b r x c → FromTerm k r x c
 after_colon b {r = r} {x = x} {c = c} h (k', h', rest) = subst (λ z. FromTerm z r x c) (one_colon h' h) rest
 
-pub after_term : {k d r x : List ℕ} {t : RawTerm} {c : Sentence} → SpellsTerm k d t → FromTerm k r x c → FromStop d r x t c
+pub after_term : {k d r x : List ℕ} {t : RawTerm} {c : Sentence} → SpellsTerm deepest_nesting k d t → FromTerm k r x c → FromStop d r x t c
 after_term {d = d} {r = r} {x = x} {c = c} h (d', t', h', rest) =
     let same = one_term h' h in
     subst (λ z. FromStop d r x z c) same.0 (subst (λ z. FromStop z r x t' c) same.1 rest)
@@ -63,9 +115,39 @@ one_sentence (spells_axiom {a = a} {b = b} h1 h2 h3 h4 h5) whole =
     let last = after_term h4 (after_colon b h3 (after_name a h2 (after_axiom h1 whole))) in
     (last.1, one_stop h5 last.0)
 
--- a term, a sentence and a list of sentences leave less
-term_shortens : {s r : List ℕ} {t : RawTerm} → SpellsTerm s r t → length r < length s
-term_shortens {s = s} (spells_prop h) = let a = word_shortens h in let b = blanks_shorten s in omega arith
+-- a term, an atom, a sentence and a list of sentences leave less
+mutual
+  term_shortens : {m : ℕ} {s r : List ℕ} {t : RawTerm} → SpellsTerm m s r t → length r < length s
+  term_shortens {s = s} (spells_for_all {a = a} {b = b} {d = d} h1 h2 h3 h4 h5 h6) =
+      let word = word_shortens h1 in
+      let binder = word_shortens h2.word in
+      let colon = colon_shortens h3 in
+      let type = term_shortens h4 in
+      let comma = symbol_leaves (codes ",") h5 in
+      let body = term_shortens h6 in
+      let at_s = blanks_shorten s in
+      let at_a = blanks_shorten a in
+      let at_b = blanks_shorten b in
+      let at_d = blanks_shorten d in
+      omega arith
+  term_shortens (spells_arrow {a = a} h1 h2 h3) =
+      let from = atom_shortens h1 in
+      let symbol = symbol_leaves (codes "->") h2 in
+      let to = term_shortens h3 in
+      let at_a = blanks_shorten a in
+      omega arith
+  term_shortens (spells_atom h1 h2) = atom_shortens h1
+
+  atom_shortens : {m : ℕ} {s r : List ℕ} {t : RawTerm} → SpellsAtom m s r t → length r < length s
+  atom_shortens {s = s} (spells_prop h) = let a = word_shortens h in let b = blanks_shorten s in omega arith
+  atom_shortens {s = s} (spells_name h) = let a = word_shortens h.word in let b = blanks_shorten s in omega arith
+  atom_shortens {s = s} (spells_group {b = b} h1 h2 h3) =
+      let opens = symbol_leaves (codes "(") h1 in
+      let inner = term_shortens h2 in
+      let closes = symbol_leaves (codes ")") h3 in
+      let at_s = blanks_shorten s in
+      let at_b = blanks_shorten b in
+      omega arith
 
 pub sentence_shortens : {s r : List ℕ} {c : Sentence} → SpellsSentence s r c → length r < length s
 sentence_shortens {s = s} (spells_axiom {a = a} {b = b} {d = d} h1 h2 h3 h4 h5) =
@@ -147,7 +229,3 @@ unread_at {r = r} {cs = cs} all short byte position = unread short (record {
 -- what is left after the sentences and blanks is part of the source
 pub all_shorten : {s r : List ℕ} {cs : List Sentence} → TakesAll s r cs → length (after_blanks r) ≤ length s
 all_shorten {r = r} all = let a = blanks_shorten r in let b = sentences_shorten all.spelled in omega arith
-
--- a term is the word Prop
-pub prop_word : {s r : List ℕ} {t : RawTerm} → SpellsTerm s r t → SpellsWord (after_blanks s) r (codes "Prop")
-prop_word (spells_prop h) = h

@@ -1,10 +1,14 @@
--- Laws of the tokens: each is read in one way, takes at least a byte, and begins as it should.
+-- Laws of the tokens: each is read in one way, takes at least a byte, and begins as it should. The laws of the grammar
+-- rest on them, and the reader of tokens is exact by them.
 use Rattle.std.proofs.Common.{ℕ, suc, Bool, true, false, cond, List, [], ◌∷◌, ◌++◌, ◌≡◌, ◌≤◌, ◌<◌, ◌+◌, ◌&&◌, ◌||◌, ◌==◌, length, take, drop, refl, ap, sym, subst, ◌∙◌, arith, length-append, take-append-drop}
-use Rattle.std.specs.Prelude.{Some, slice_get}
+use Rattle.std.proofs.lemmas.List.{append_cancel_left}
+use Rattle.std.specs.Prelude.{Some, slice_get, not, codes}
+use Rattle.std.specs.Str.{chars, is_utf8}
 use Rattle.std.proofs.lemmas.Bool.Decides.{nat_tests}
 use Rattle.std.specs.Int.{is_in_range}
 use Rattle.std.specs.List.{list_all, prefix_len}
-use Rattle.gal_parser.specs.Tokens.{is_blank, after_blanks, first_passes, begins_word, continues_word, SpellsWord, SpellsIdentifier, SpellsColon, SpellsStop}
+use Rattle.cic_terms.specs.Identifier.{is_word, is_reserved, IsIdentifier}
+use Rattle.gal_parser.specs.Tokens.{is_blank, after_blanks, first_passes, begins_word, continues_word, SpellsWord, SpellsIdentifier, SpellsColon, SpellsStop, SpellsSymbol}
 
 both_true : (a b : Bool) → (a && b) ≡ true → (a ≡ true) × (b ≡ true)
 both_true true true e = (refl, refl)
@@ -28,7 +32,7 @@ one_run p (x ∷ w) (y ∷ w') r r' e a a' l l' =
     let front = same.0 in
     ((cc), same.1)
 
--- a text begins with one word, one identifier, one colon and one stop at the most
+-- a text begins with one word, one identifier, one colon, one stop and one symbol of a kind at the most
 pub one_word : {s r r' w w' : List ℕ} → SpellsWord s r w → SpellsWord s r' w' → (w ≡ w') × (r ≡ r')
 one_word {r = r} {r' = r'} {w = w} {w' = w'} h h' =
     one_run continues_word w w' r r' (sym h.text ∙ h'.text) h.continues h'.continues h.longest h'.longest
@@ -41,6 +45,36 @@ one_colon h h' = let e = h.text in let e' = h'.text in (cc)
 
 pub one_stop : {s r r' : List ℕ} → SpellsStop s r → SpellsStop s r' → r ≡ r'
 one_stop h h' = let e = h.text in let e' = h'.text in (cc)
+
+pub one_symbol : (symbol : List ℕ) {s r r' : List ℕ} → SpellsSymbol symbol s r → SpellsSymbol symbol s r' → r ≡ r'
+one_symbol symbol {r = r} {r' = r'} h h' = append_cancel_left symbol r r' (sym h.text ∙ h'.text)
+
+-- the same of equal texts
+pub word_at : {s s' r r' w w' : List ℕ} → s ≡ s' → SpellsWord s r w → SpellsWord s' r' w' → (w ≡ w') × (r ≡ r')
+word_at {r = r} {w = w} e h h' = one_word (subst (λ z. SpellsWord z r w) e h) h'
+
+pub identifier_at : {s s' r r' x x' : List ℕ} → s ≡ s' → SpellsIdentifier s r x → SpellsIdentifier s' r' x' → (x ≡ x') × (r ≡ r')
+identifier_at e h h' = word_at e h.word h'.word
+
+pub colon_at : {s s' r r' : List ℕ} → s ≡ s' → SpellsColon s r → SpellsColon s' r' → r ≡ r'
+colon_at {r = r} e h h' = one_colon (subst (λ z. SpellsColon z r) e h) h'
+
+pub symbol_at : (symbol : List ℕ) {s s' r r' : List ℕ} → s ≡ s' → SpellsSymbol symbol s r → SpellsSymbol symbol s' r' → r ≡ r'
+symbol_at symbol {r = r} e h h' = one_symbol symbol (subst (λ z. SpellsSymbol symbol z r) e h) h'
+
+-- a reserved word is no identifier
+reserved_at : (a b c : Bool) → c ≡ true → (a && b && not c) ≡ true → ⊥
+reserved_at true true true e h = (cc)
+reserved_at true false c e h = (cc)
+reserved_at false b c e h = (cc)
+reserved_at true true false e h = (cc)
+
+reserved_is_no_identifier : (w : List ℕ) → is_reserved w ≡ true → IsIdentifier w → ⊥
+reserved_is_no_identifier w e h = reserved_at (is_utf8 w) (is_word (chars w)) (is_reserved w) e h
+
+-- where a reserved word stands no identifier begins
+pub no_identifier_at : {s s' r r' w x : List ℕ} → s ≡ s' → is_reserved w ≡ true → SpellsWord s r w → SpellsIdentifier s' r' x → ⊥
+no_identifier_at {w = w} q e h h' = reserved_is_no_identifier w e (subst IsIdentifier (sym (word_at q h h'.word).0) h'.identifier)
 
 -- the longest run of bytes that pass, at a text
 run_passes : (p : ℕ → Bool) (s : List ℕ) → list_all p (take (prefix_len p s) s) ≡ true
@@ -102,6 +136,13 @@ word_begins {s = s} {r = r} {w = w} h = begins_at s r w h.text h.begins
 pub no_word_at_end : {s r w : List ℕ} → SpellsWord s r w → s ≡ [] → ⊥
 no_word_at_end h e = let begins = word_begins h in let nothing = ap (first_passes begins_word) e in (cc)
 
+-- where a parenthesis opens no word begins
+pub no_word_at_parenthesis : {s s' a r w : List ℕ} → s ≡ s' → SpellsSymbol (codes "(") s a → SpellsWord s' r w → ⊥
+no_word_at_parenthesis q p h =
+    let begins = word_begins h in
+    let opens = ap (first_passes begins_word) (sym q ∙ p.text) in
+    (cc)
+
 -- how much is left
 pub blanks_shorten : (s : List ℕ) → length (after_blanks s) ≤ length s
 blanks_shorten [] = omega arith
@@ -123,6 +164,9 @@ colon_shortens h = let size = ap length h.text in omega arith
 
 pub stop_shortens : {s r : List ℕ} → SpellsStop s r → length r < length s
 stop_shortens h = let size = ap length h.text in omega arith
+
+pub symbol_leaves : (symbol : List ℕ) {s r : List ℕ} → SpellsSymbol symbol s r → length r ≤ length s
+symbol_leaves symbol {r = r} h = let size = ap length h.text in let sum = length-append symbol r in omega arith
 
 -- the test for the end of a text
 pub some_left : (s t : List ℕ) (b : Bool) → s ≡ t → b ≡ (length s == 0) → b ≡ false → 0 < length t

@@ -1,19 +1,55 @@
 -- The grammar of sources. Each relation `R s r x` says that the text s begins with a spelling of x and
 -- that r is what is left of s after it. Blanks may stand before each token.
-use Rattle.std.specs.Prelude.{ℕ, List, [], ◌∷◌, ◌≡◌, ◌≤◌, ◌<◌, ◌+◌, length, codes}
-use Rattle.gal_parser.specs.Tokens.{after_blanks, SpellsWord, SpellsIdentifier, SpellsColon, SpellsStop}
+use Rattle.std.specs.Prelude.{ℕ, suc, List, [], ◌∷◌, ◌≡◌, ◌≤◌, ◌<◌, ◌+◌, length, codes}
+use Rattle.gal_parser.specs.Tokens.{after_blanks, SpellsWord, SpellsIdentifier, SpellsColon, SpellsStop, SpellsSymbol}
 
 -- a term as it is written
 pub data RawTerm : Type 0 where
   prop : RawTerm
+  name : List ℕ → RawTerm
+  for_all : (binder : List ℕ) → (type body : RawTerm) → RawTerm
+  arrow : (from to : RawTerm) → RawTerm
 
 -- a sentence: an axiom of a name and its type
 pub data Sentence : Type 0 where
   axiom_sentence : List ℕ → RawTerm → Sentence
 
--- term = "Prop"
-pub data SpellsTerm : List ℕ → List ℕ → RawTerm → Type 0 where
-  spells_prop : {s r : List ℕ} → SpellsWord (after_blanks s) r (codes "Prop") → SpellsTerm s r prop
+-- The room says how many terms may stand within one another: of a term this one among them, of an atom those
+-- between its parentheses. So no term has the room 0, and the parts of a term have one less than it.
+mutual
+  -- term = "forall" identifier ":" term "," term | atom "->" term | atom, where no "->" follows the last
+  pub data SpellsTerm : ℕ → List ℕ → List ℕ → RawTerm → Type 0 where
+    spells_for_all : {room : ℕ} {s a b c d e r x : List ℕ} {type body : RawTerm} →
+        SpellsWord (after_blanks s) a (codes "forall") →
+        SpellsIdentifier (after_blanks a) b x →
+        SpellsColon (after_blanks b) c →
+        SpellsTerm room c d type →
+        SpellsSymbol (codes ",") (after_blanks d) e →
+        SpellsTerm room e r body →
+        SpellsTerm (suc room) s r (for_all x type body)
+    spells_arrow : {room : ℕ} {s a b r : List ℕ} {from to : RawTerm} →
+        SpellsAtom room s a from →
+        SpellsSymbol (codes "->") (after_blanks a) b →
+        SpellsTerm room b r to →
+        SpellsTerm (suc room) s r (arrow from to)
+    spells_atom : {room : ℕ} {s r : List ℕ} {t : RawTerm} →
+        SpellsAtom room s r t →
+        ((b : List ℕ) → SpellsSymbol (codes "->") (after_blanks r) b → ⊥) →
+        SpellsTerm (suc room) s r t
+
+  -- atom = "Prop" | identifier | "(" term ")"
+  pub data SpellsAtom : ℕ → List ℕ → List ℕ → RawTerm → Type 0 where
+    spells_prop : {room : ℕ} {s r : List ℕ} → SpellsWord (after_blanks s) r (codes "Prop") → SpellsAtom room s r prop
+    spells_name : {room : ℕ} {s r x : List ℕ} → SpellsIdentifier (after_blanks s) r x → SpellsAtom room s r (name x)
+    spells_group : {room : ℕ} {s a b r : List ℕ} {t : RawTerm} →
+        SpellsSymbol (codes "(") (after_blanks s) a →
+        SpellsTerm room a b t →
+        SpellsSymbol (codes ")") (after_blanks b) r →
+        SpellsAtom room s r t
+
+-- how many terms may stand within one another in a sentence
+abbrev pub deepest_nesting : ℕ
+deepest_nesting = 500
 
 -- sentence = "Axiom" identifier ":" term stop
 pub data SpellsSentence : List ℕ → List ℕ → Sentence → Type 0 where
@@ -21,7 +57,7 @@ pub data SpellsSentence : List ℕ → List ℕ → Sentence → Type 0 where
       SpellsWord (after_blanks s) a (codes "Axiom") →
       SpellsIdentifier (after_blanks a) b x →
       SpellsColon (after_blanks b) c →
-      SpellsTerm c d t →
+      SpellsTerm deepest_nesting c d t →
       SpellsStop (after_blanks d) r →
       SpellsSentence s r (axiom_sentence x t)
 

@@ -54,3 +54,7 @@ ends_or_blank (b ∷ s) = is_blank b
 pub record SpellsStop (s r : List ℕ) : Type 0 where
   pub text : s ≡ 46 ∷ r
   pub ends : IsTrue (ends_or_blank r)
+
+-- another symbol: `,`, `(`, `)` or `->`
+pub record SpellsSymbol (symbol s r : List ℕ) : Type 0 where
+  pub text : s ≡ symbol ++ r

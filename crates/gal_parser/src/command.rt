@@ -9,6 +9,16 @@ use std::slice::Iter;
 pub enum Raw {
     /// The sort `Prop`.
     Prop,
+    /// A name.
+    Name(Name),
+    /// `forall binder : ty, body`
+    ForAll {
+        binder: Name,
+        ty: Box<Raw>,
+        body: Box<Raw>,
+    },
+    /// `from -> to`
+    Arrow(Box<Raw>, Box<Raw>),
 }
 
 /// A sentence of a source.
@@ -27,10 +37,14 @@ pub struct Commands {
 impl Model for Commands {
     ghost use Rattle.std.specs.Prelude.{List};
     ghost use Rattle.gal_parser.specs.declared.command.Command.{Command};
+    ghost use Rattle.gal_parser.specs.contracts.command.Raw as raw;
+    ghost use Rattle.std.specs.Coded.{codes};
 
     ghost Value = { List Command };
 
     ghost view = { λ c. c.items.items };
+
+    ghost coded = { Prim.hlevel (codes, raw.the_row.coded) };
 }
 
 impl Commands {

@@ -2,17 +2,26 @@
 
 ghost use Rattle.std.specs.Prelude.{◌≡◌, ◌≤◌, ◌<◌, ◌↔◌, ◌||◌, ◌==◌, ℕ, List, length, IsTrue, IfOk, take_while};
 ghost use Rattle.std.specs.List.{prefix_len};
-ghost use Rattle.gal_parser.specs.Answers.{Takes};
-ghost use Rattle.gal_parser.specs.Tokens.{is_blank, after_blanks, begins_word, continues_word, first_passes, ends_or_blank, SpellsWord, SpellsIdentifier, SpellsColon, SpellsStop};
+ghost use Rattle.gal_parser.specs.Answers.{Takes, TakesIf, TakesOrLeaves};
+ghost use Rattle.gal_parser.specs.declared.lexer.Fault.TheVariants.{NoMemory};
+ghost use Rattle.gal_parser.specs.Tokens.{is_blank, after_blanks, begins_word, continues_word, first_passes, ends_or_blank, SpellsWord, SpellsIdentifier, SpellsColon, SpellsStop, SpellsSymbol};
 
 use cic_terms::{Name, NameFault};
-use std::alloc::Global;
+use std::alloc::{AllocFailed, Global};
 
 /// Why something could not be read: what is left does not begin with it, or memory ran out.
 #[derive(Debug, Drop)]
 pub enum Fault {
     NoMatch,
     NoMemory,
+}
+
+impl<T: Drop> From<AllocFailed<T>> for Fault {
+    ghost from_gives = { λ _ e. e ≡ NoMemory };
+
+    fn from(_: AllocFailed<T>) -> Fault {
+        Fault::NoMemory
+    }
 }
 
 fn is_blank(byte: u8) -> bool
@@ -64,25 +73,64 @@ pub struct Reader<'a> {
 }
 
 impl<'a> Reader<'a> {
-    /// The longest word.
-    pub fn word(&mut self) -> Result<&'a [u8], Fault>
-        ensures { Takes (λ s r w. SpellsWord (after_blanks s) r w) (λ w. w.now) result self.old.rest.now self.new.rest.now }
+    /// The longest word, if a word is next; else the reader stays.
+    pub fn word(&mut self) -> Option<&'a [u8]>
+        ensures { TakesOrLeaves (λ s r w. SpellsWord (after_blanks s) r w) (λ w. w.now) result self.old.rest.now self.new.rest.now }
     {
         let text = after_blanks(self.rest);
         match text.first() {
             Some(first) if begins_word(*first) => {}
-            _ => return Err(Fault::NoMatch),
+            _ => return None,
         }
         let (word, rest) = text.split_at(word_length(text));
         self.rest = rest;
-        Ok(word)
+        Some(word)
+    }
+
+    /// Takes the word if it is the next one; else the reader stays.
+    pub fn takes_keyword(&mut self, expected: &[u8]) -> bool
+        ensures { TakesIf (λ s r. SpellsWord (after_blanks s) r expected.now) result self.old.rest.now self.new.rest.now }
+    {
+        let start = self.rest;
+        let Some(word) = self.word() else {
+            return false;
+        };
+        if word == expected {
+            return true;
+        }
+        self.rest = start;
+        false
     }
 
     /// The word that is expected.
     pub fn keyword(&mut self, expected: &[u8]) -> Result<(), Fault>
         ensures { Takes (λ s r _. SpellsWord (after_blanks s) r expected.now) (λ u. u) result self.old.rest.now self.new.rest.now }
     {
-        if self.word()? == expected {
+        if self.takes_keyword(expected) {
+            Ok(())
+        } else {
+            Err(Fault::NoMatch)
+        }
+    }
+
+    /// Takes the symbol if it is the next one; else the reader stays.
+    pub fn takes_symbol(&mut self, expected: &[u8]) -> bool
+        ensures { TakesIf (λ s r. SpellsSymbol expected.now (after_blanks s) r) result self.old.rest.now self.new.rest.now }
+    {
+        match after_blanks(self.rest).strip_prefix(expected) {
+            Some(rest) => {
+                self.rest = rest;
+                true
+            }
+            None => false,
+        }
+    }
+
+    /// The symbol that is expected.
+    pub fn symbol(&mut self, expected: &[u8]) -> Result<(), Fault>
+        ensures { Takes (λ s r _. SpellsSymbol expected.now (after_blanks s) r) (λ u. u) result self.old.rest.now self.new.rest.now }
+    {
+        if self.takes_symbol(expected) {
             Ok(())
         } else {
             Err(Fault::NoMatch)
@@ -93,7 +141,9 @@ impl<'a> Reader<'a> {
     pub fn identifier(&mut self, alloc: Global) -> Result<Name, Fault>
         ensures { Takes (λ s r x. SpellsIdentifier (after_blanks s) r x) (λ x. x) result self.old.rest.now self.new.rest.now }
     {
-        let word = self.word()?;
+        let Some(word) = self.word() else {
+            return Err(Fault::NoMatch);
+        };
         match Name::new(alloc, word) {
             Ok(name) => Ok(name),
             Err(NameFault::NotIdent) => Err(Fault::NoMatch),

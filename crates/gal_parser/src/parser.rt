@@ -1,8 +1,8 @@
 //! Sentences and their terms, read from the tokens, and the whole source.
 
 ghost use Rattle.std.specs.Prelude.{◌≡◌, ◌≤◌, ◌<◌, ℕ, List, length, IfOk, OnOk};
-ghost use Rattle.gal_parser.specs.Answers.{Takes, TakesOrLeaves, TakesAll, OnNotYet};
-ghost use Rattle.gal_parser.specs.Grammar.{Sentence, SpellsTerm, SpellsSentence, Reads, NotYetAt};
+ghost use Rattle.gal_parser.specs.Answers.{Takes, SpellsBinding, TakesOrLeaves, TakesAll, OnNotYet};
+ghost use Rattle.gal_parser.specs.Grammar.{Sentence, SpellsTerm, SpellsAtom, SpellsSentence, Reads, NotYetAt};
 ghost use Rattle.gal_parser.specs.Views.{raw_term, sentence_of, sentences_of};
 
 use crate::command::{Command, Commands, Raw};
@@ -32,11 +32,60 @@ impl From<NoMemory> for ParseFault {
 /// The most bytes that a source may have.
 const LONGEST_SOURCE: u32 = 65536;
 
-fn term(reader: &mut Reader) -> Result<Raw, Fault>
-    ensures { Takes SpellsTerm raw_term result reader.old.rest.now reader.new.rest.now }
+/// How many terms may stand within one another in a sentence.
+const DEEPEST_NESTING: u16 = 500;
+
+// A term. The room says how many terms may stand within one another, this one among them.
+#[cycle(terms)]
+fn term(alloc: Global, room: u16, reader: &mut Reader) -> Result<Raw, Fault>
+    ensures { Takes (SpellsTerm room) raw_term result reader.old.rest.now reader.new.rest.now }
 {
-    reader.keyword(b"Prop")?;
-    Ok(Raw::Prop)
+    if room == 0 {
+        return Err(Fault::NoMatch);
+    }
+    if reader.takes_keyword(b"forall") {
+        return binding(alloc, room - 1, reader);
+    }
+    let from = atom(alloc, room - 1, reader)?;
+    if reader.takes_symbol(b"->") {
+        let to = term(alloc, room - 1, reader)?;
+        return Ok(Raw::Arrow(Box::new(alloc, from)?, Box::new(alloc, to)?));
+    }
+    Ok(from)
+}
+
+// What follows the word `forall`: the binder with its type, and the body.
+#[cycle(terms)]
+fn binding(alloc: Global, room: u16, reader: &mut Reader) -> Result<Raw, Fault>
+    ensures { Takes (SpellsBinding room) raw_term result reader.old.rest.now reader.new.rest.now }
+{
+    let binder = reader.identifier(alloc)?;
+    reader.colon()?;
+    let ty = term(alloc, room, reader)?;
+    reader.symbol(b",")?;
+    let body = term(alloc, room, reader)?;
+    Ok(Raw::ForAll {
+        binder,
+        ty: Box::new(alloc, ty)?,
+        body: Box::new(alloc, body)?,
+    })
+}
+
+// A term that needs no parentheses around it: a word, or a term that has them.
+#[cycle(terms)]
+fn atom(alloc: Global, room: u16, reader: &mut Reader) -> Result<Raw, Fault>
+    ensures { Takes (SpellsAtom room) raw_term result reader.old.rest.now reader.new.rest.now }
+{
+    if reader.takes_keyword(b"Prop") {
+        return Ok(Raw::Prop);
+    }
+    if reader.takes_symbol(b"(") {
+        let inner = term(alloc, room, reader)?;
+        reader.symbol(b")")?;
+        return Ok(inner);
+    }
+    let name = reader.identifier(alloc)?;
+    Ok(Raw::Name(name))
 }
 
 fn sentence(alloc: Global, reader: &mut Reader) -> Result<Command, Fault>
@@ -45,14 +94,14 @@ fn sentence(alloc: Global, reader: &mut Reader) -> Result<Command, Fault>
     reader.keyword(b"Axiom")?;
     let name = reader.identifier(alloc)?;
     reader.colon()?;
-    let ty = term(reader)?;
+    let ty = term(alloc, DEEPEST_NESTING, reader)?;
     reader.stop()?;
     Ok(Command::Axiom { name, ty })
 }
 
 // The next sentence, or nothing where none begins.
 fn next_sentence(alloc: Global, reader: &mut Reader) -> Result<Option<Command>, NoMemory>
-    ensures { IfOk result (λ o. TakesOrLeaves sentence_of o reader.old.rest.now reader.new.rest.now) }
+    ensures { IfOk result (λ o. TakesOrLeaves SpellsSentence sentence_of o reader.old.rest.now reader.new.rest.now) }
 {
     let start = reader.rest;
     match sentence(alloc, reader) {
