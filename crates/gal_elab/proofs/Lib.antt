@@ -1,0 +1,3 @@
+pub mod Levelled
+pub mod Resolutions
+pub mod Determined
