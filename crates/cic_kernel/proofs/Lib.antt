@@ -1,1 +1,7 @@
-pub mod Propositions
+pub mod Depths
+pub mod Lookups
+pub mod Evaluation
+pub mod TypesOfTerms
+pub mod Declarations
+pub mod Causes
+pub mod Judgement

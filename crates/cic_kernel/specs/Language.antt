@@ -1,8 +1,51 @@
--- The declarations that the program can make so far: axioms of type Prop.
-use Rattle.std.specs.Prelude.{◌≡◌}
-use Rattle.cic_terms.specs.Tree.{sort, prop}
-use Rattle.cic_rules.specs.Environment.{Declaration, axiom_of}
+-- The language of axioms: the types of its axioms are built of Prop, variables, constants and products.
+use Rattle.std.specs.Prelude.{◌≡◌, ◌⊎◌, List, [], ◌∷◌}
+use Rattle.cic_terms.specs.Tree.{TreeSort, prop, Tree, rel, sort, prod, const}
+use Rattle.cic_terms.specs.declared.level.Level.TheVariants.{Set}
+use Rattle.cic_rules.specs.Environment.{Declaration, axiom_of, Item, declared, Environment}
+use Rattle.cic_counted.specs.Outcome.{Cause, unbound, not_sort}
+use Rattle.cic_counted.specs.Inference.{next_level}
 
+abbrev pub TermOfLanguage : Tree → Type 0
+TermOfLanguage (rel x) = Unit {0}
+TermOfLanguage (sort s) = s ≡ prop
+TermOfLanguage (const c) = Unit {0}
+TermOfLanguage (prod a b) = TermOfLanguage a × TermOfLanguage b
+TermOfLanguage _ = ⊥
+
+-- An axiom whose type is a term of the language, and an environment of such axioms alone.
 abbrev pub IsOfLanguage : Declaration → Type 0
-IsOfLanguage (axiom_of id type) = type ≡ sort prop
+IsOfLanguage (axiom_of id type) = TermOfLanguage type
 IsOfLanguage _ = ⊥
+
+abbrev pub ItemOfLanguage : Item → Type 0
+ItemOfLanguage (declared d) = IsOfLanguage d
+ItemOfLanguage _ = ⊥
+
+abbrev pub EnvironmentOfLanguage : Environment → Type 0
+EnvironmentOfLanguage [] = Unit {0}
+EnvironmentOfLanguage (item ∷ E) = ItemOfLanguage item × EnvironmentOfLanguage E
+
+-- The types of the variables of a context, each a term of the language.
+abbrev pub AreOfLanguage : List Tree → Type 0
+AreOfLanguage [] = Unit {0}
+AreOfLanguage (t ∷ ts) = TermOfLanguage t × AreOfLanguage ts
+
+-- The universe above Set.
+abbrev pub above_set : TreeSort
+above_set = next_level Set
+
+-- The sorts of the types of the language.
+abbrev pub IsUniverse : TreeSort → Type 0
+IsUniverse s = (s ≡ prop) ⊎ (s ≡ above_set)
+
+-- The types of the terms of the language: such terms again, and the universe above Set.
+abbrev pub TypeOfLanguage : Tree → Type 0
+TypeOfLanguage (sort s) = IsUniverse s
+TypeOfLanguage t = TermOfLanguage t
+
+-- Why an axiom of the language may be refused: an id or a variable is not there, or a term of the language is no sort.
+abbrev pub CauseOfLanguage : Cause → Type 0
+CauseOfLanguage (unbound what) = Unit {0}
+CauseOfLanguage (not_sort depth form) = TermOfLanguage form
+CauseOfLanguage _ = ⊥

@@ -1,1 +1,4 @@
 pub mod Language
+pub mod Counting
+pub mod State
+pub mod Accepting

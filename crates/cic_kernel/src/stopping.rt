@@ -1,0 +1,91 @@
+//! Why a check ends without a value.
+
+ghost use Rattle.std.specs.Prelude.{Some};
+ghost use Rattle.cic_terms.specs.Denotes.{tree};
+ghost use Rattle.cic_counted.specs.Outcome.{refused, not_sort};
+ghost use Rattle.cic_kernel.specs.Counting.{Rejects};
+
+use cic_env::{Cause, Found, Missing, Verdict};
+use cic_terms::{GlobalId, NoMemory, Term, TermFault, copy};
+use std::alloc::{AllocError, AllocFailed};
+use std::rc::Rc;
+
+/// Why a counted call has no value.
+#[derive(Drop)]
+pub enum Stop {
+    /// The id is not declared.
+    UnknownId(GlobalId),
+    /// The variable is not in the context.
+    UnknownVariable(u32),
+    /// The form is to be a sort, in a context of that length.
+    NotSort { depth: u32, form: Rc<Term> },
+    Spent,
+    Deep,
+    NoMemory,
+}
+
+impl From<NoMemory> for Stop {
+    ghost use Rattle.std.specs.Prelude.{◌≡◌};
+    ghost use Rattle.cic_kernel.specs.declared.stopping.Stop.TheVariants as S;
+
+    ghost from_gives = { λ _ e. e ≡ S.NoMemory };
+
+    fn from(_fault: NoMemory) -> Stop {
+        Stop::NoMemory
+    }
+}
+
+impl From<AllocError> for Stop {
+    ghost use Rattle.std.specs.Prelude.{◌≡◌};
+    ghost use Rattle.cic_kernel.specs.declared.stopping.Stop.TheVariants as S;
+
+    ghost from_gives = { λ _ e. e ≡ S.NoMemory };
+
+    fn from(_fault: AllocError) -> Stop {
+        Stop::NoMemory
+    }
+}
+
+impl<T: Drop> From<AllocFailed<T>> for Stop {
+    ghost use Rattle.std.specs.Prelude.{◌≡◌};
+    ghost use Rattle.cic_kernel.specs.declared.stopping.Stop.TheVariants as S;
+
+    ghost from_gives = { λ _ e. e ≡ S.NoMemory };
+
+    fn from(_fault: AllocFailed<T>) -> Stop {
+        Stop::NoMemory
+    }
+}
+
+/// The refusal of a form that is no sort.
+fn not_sort(depth: u32, form: &Term) -> Verdict<Found>
+    ensures { Rejects result (Some (refused (not_sort depth (tree form.now)))) }
+{
+    match copy(form) {
+        Ok(form) => Verdict::Refused(Cause::NotSort { depth, form }),
+        Err(NoMemory) => Verdict::NoMemory,
+    }
+}
+
+impl Stop {
+    ghost use Rattle.cic_kernel.specs.Counting.{reason};
+
+    /// The verdict on a declaration whose check ends so.
+    #[inline(never)]
+    pub fn verdict(self) -> Verdict<Found>
+        ensures { Rejects result (reason self) }
+    {
+        match self {
+            Stop::UnknownId(id) => Verdict::Refused(Cause::Unbound {
+                what: Missing::Global(id),
+            }),
+            Stop::UnknownVariable(k) => Verdict::Refused(Cause::Unbound {
+                what: Missing::Local(k),
+            }),
+            Stop::NotSort { depth, form } => not_sort(depth, &form),
+            Stop::Spent => Verdict::Spent,
+            Stop::Deep => Verdict::Deep,
+            Stop::NoMemory => Verdict::NoMemory,
+        }
+    }
+}
