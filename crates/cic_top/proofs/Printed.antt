@@ -18,22 +18,20 @@ use Rattle.cic_terms.specs.declared.name.GlobalId.{GlobalId}
 use Rattle.cic_rules.specs.Environment.{Environment, Declaration, declared, axiom_of}
 use Rattle.cic_env.specs.Declarations.{declaration, item}
 use Rattle.cic_env.specs.declared.declaration.Decl.{Decl}
-use Rattle.cic_top.specs.Refusals.{Refusal, no_file, not_yet, duplicate, spent, deep}
-use Rattle.cic_top.specs.Texts.{Prints, prop_is_printed, AxiomLine, AxiomLines, no_item, one_axiom, id_text, put_line, insert_line, insert_lines, axiom_list, IsAxiomList, error_line, IsRefusalLine, no_file_line, not_yet_line, duplicate_line, spent_line, deep_line}
-use Rattle.cic_top.specs.Lines.{HasText, line_of, lines_of, AreSortedAxioms}
-
--- A term is printed in one way.
-printed_as_prop : {t : Tree} {text : List ℕ} → Prints t text → text ≡ codes "Prop"
-printed_as_prop prop_is_printed = refl
-
-pub prints_same : {t : Tree} {a b : List ℕ} → Prints t a → Prints t b → a ≡ b
-prints_same p q = printed_as_prop p ∙ sym (printed_as_prop q)
+use Rattle.cic_counted.specs.Outcome.{Cause, Missing, unbound, global, local, not_sort}
+use Rattle.gal_print.specs.Printing.{HasText, Prints, id_text}
+use Rattle.gal_print.specs.Appending.{Appends}
+use Rattle.gal_print.proofs.OneText.{one_text}
+use Rattle.gal_print.proofs.Texts.{printed_has_text}
+use Rattle.cic_top.specs.Refusals.{Refusal, no_file, not_yet, duplicate, unknown, ill, spent, deep}
+use Rattle.cic_top.specs.Texts.{IsCauseText, not_sort_text, unbound_id_text, unbound_variable_text, AxiomLine, AxiomLines, no_item, one_axiom, put_line, insert_line, insert_lines, axiom_list, IsAxiomList, error_line, IsRefusalLine, no_file_line, not_yet_line, duplicate_line, unknown_line, ill_line, spent_line, deep_line}
+use Rattle.cic_top.specs.Lines.{HasCauseText, line_of, lines_of, AreSortedAxioms}
 
 -- What the lines of an environment say of its first axiom.
 pub record FirstAxiom (id : GlobalId) (type : Tree) (E : Environment) (lines : List AxiomLine) : Type 0 where
   pub text : List ℕ
   pub rest : List AxiomLine
-  pub is_printed : Prints type text
+  pub is_printed : Prints 0 type text
   pub others : AxiomLines E rest
   pub is : lines ≡ record { id = id_text id; type = text } ∷ rest
 
@@ -104,11 +102,11 @@ sorted_at_start E left lines same each = record {
 pub sorted_more : (E left : Environment) (id : GlobalId) (type : Tree) (entries : List (String Global × String Global)) (key value : String Global) →
     SortedSoFar E (declared (axiom_of id type) ∷ left) (lines_of entries) →
     string_bytes key ≡ id_text id →
-    Prints type (string_bytes value) →
+    Prints 0 type (string_bytes value) →
     SortedSoFar E left (lines_of (insert_entry string_cmp entries key value))
 sorted_more E left id type entries key value sorted named printed =
     let first : FirstAxiom id type left sorted.rest = first_axiom sorted.each_left in
-    let typed : string_bytes value ≡ first.text = prints_same printed first.is_printed in
+    let typed : string_bytes value ≡ first.text = one_text printed first.is_printed in
     let put : lines_of (insert_entry string_cmp entries key value) ≡ insert_line (lines_of entries) (line_of (key, value)) = insert_entry_line entries key value in
     let line : line_of (key, value) ≡ record { id = id_text id; type = first.text } = cc in
     record {
@@ -164,7 +162,7 @@ pub first_has_text : (E left : Environment) (sorted : List AxiomLine) (id : Glob
     HasText type
 first_has_text E left sorted id type so_far =
     let first : FirstAxiom id type left so_far.rest = first_axiom so_far.each_left in
-    (first.text, first.is_printed)
+    printed_has_text first.is_printed
 
 -- The list where there is no axiom.
 pub closed_list : (E : Environment) (sorted : List AxiomLine) → AreSortedAxioms E sorted → sorted ≡ [] →
@@ -192,6 +190,62 @@ pub duplicate_text : (r : Refusal) (name text : List ℕ) → r ≡ duplicate na
     text ≡ codes "Error: duplicate name " ++ (name ++ codes ".\n") →
     IsRefusalLine r text
 duplicate_text r name text is e = line_as r (duplicate name) text _ is (simp append_assoc e) duplicate_line
+
+-- A term that was printed behind nothing.
+pub printed_alone : (t : Tree) (old new : List ℕ) → old ≡ [] → Appends (Prints 0 t) old new → Prints 0 t new
+printed_alone t old new none h = subst (Prints 0 t) (sym (h.text ∙ ap (λ (z : List ℕ). z ++ h.added) none)) h.is_such
+
+-- The causes of refusals, as their parts are put behind what was there.
+cause_at : (cause cause' : Cause) (old new text : List ℕ) → cause ≡ cause' → IsCauseText cause' text → new ≡ old ++ text → Appends (IsCauseText cause) old new
+cause_at cause cause' old new text same is e = record { added = text; is_such = subst (λ (c : Cause). IsCauseText c text) (sym same) is; text = e }
+
+of_not_sort : {depth : ℕ} {form : Tree} {text : List ℕ} → IsCauseText (not_sort depth form) text → HasText form
+of_not_sort (not_sort_text p) = printed_has_text p
+
+pub not_sort_has_text : (cause : Cause) (depth : ℕ) (form : Tree) → cause ≡ not_sort depth form → HasCauseText cause → HasText form
+not_sort_has_text cause depth form e h = of_not_sort (subst (λ (c : Cause). IsCauseText c h.0) e h.1)
+
+pub not_sort_appended : (cause : Cause) (depth : ℕ) (form : Tree) (old printed new : List ℕ) → cause ≡ not_sort depth form → Appends (Prints depth form) old printed → new ≡ printed ++ codes " is not a sort." →
+    Appends (IsCauseText cause) old new
+not_sort_appended cause depth form old printed new is h e =
+    cause_at cause (not_sort depth form) old new (h.added ++ codes " is not a sort.") is (not_sort_text h.is_such)
+    (e ∙ ap (λ (z : List ℕ). z ++ codes " is not a sort.") h.text ∙ append_assoc old h.added (codes " is not a sort."))
+
+pub unbound_id_appended : (what : Missing) (id : GlobalId) (old named new : List ℕ) → what ≡ global id → named ≡ old ++ id_text id → new ≡ named ++ codes " is unbound." →
+    Appends (IsCauseText (unbound what)) old new
+unbound_id_appended what id old named new is f e =
+    cause_at (unbound what) (unbound (global id)) old new (id_text id ++ codes " is unbound.") (ap unbound is) unbound_id_text
+    (e ∙ ap (λ (z : List ℕ). z ++ codes " is unbound.") f ∙ append_assoc old (id_text id) (codes " is unbound."))
+
+pub unbound_variable_appended : (what : Missing) (k : ℕ) (old start numbered new : List ℕ) → what ≡ local k → start ≡ old ++ codes "variable " → numbered ≡ start ++ decimal k → new ≡ numbered ++ codes " is unbound." →
+    Appends (IsCauseText (unbound what)) old new
+unbound_variable_appended what k old start numbered new is g f e =
+    cause_at (unbound what) (unbound (local k)) old new (codes "variable " ++ decimal k ++ codes " is unbound.") (ap unbound is) unbound_variable_text
+    (e ∙ ap (λ (z : List ℕ). z ++ codes " is unbound.") (f ∙ ap (λ (z : List ℕ). z ++ decimal k) g) ∙ variable_bytes old (codes "variable ") (decimal k) (codes " is unbound."))
+  where
+    variable_bytes : (o a b c : List ℕ) → o ++ a ++ b ++ c ≡ o ++ (a ++ b ++ c)
+    variable_bytes o a b c = ap (λ (z : List ℕ). z ++ c) (append_assoc o a b) ∙ append_assoc o (a ++ b) c
+
+pub cause_is : (cause cause' : Cause) (old new : List ℕ) → cause ≡ cause' → Appends (IsCauseText cause') old new → Appends (IsCauseText cause) old new
+cause_is cause cause' old new e h = subst (λ (c : Cause). Appends (IsCauseText c) old new) (sym e) h
+
+pub unknown_text : (r : Refusal) (name text : List ℕ) → r ≡ unknown name →
+    text ≡ codes "Error: unknown name " ++ (name ++ codes ".\n") →
+    IsRefusalLine r text
+unknown_text r name text is e = line_as r (unknown name) text _ is (simp append_assoc e) unknown_line
+
+-- The line of an ill-formed declaration, as its parts are put behind one another.
+pub ill_text : (id : GlobalId) (cause : Cause) (start named colon caused line : List ℕ) →
+    start ≡ codes "Error: In " → named ≡ start ++ id_text id → colon ≡ named ++ codes ": " → Appends (IsCauseText cause) colon caused → line ≡ caused ++ codes "\n" →
+    IsRefusalLine (ill id cause) line
+ill_text id cause start named colon caused line e f g h k =
+    line_as (ill id cause) (ill id cause) line _ refl
+    (k ∙ ap (λ (z : List ℕ). z ++ codes "\n") (h.text ∙ ap (λ (z : List ℕ). z ++ h.added) (g ∙ ap (λ (z : List ℕ). z ++ codes ": ") (f ∙ ap (λ (z : List ℕ). z ++ id_text id) e)))
+    ∙ ill_bytes (id_text id) h.added)
+    (ill_line h.is_such)
+  where
+    ill_bytes : (id cause : List ℕ) → codes "Error: In " ++ id ++ codes ": " ++ cause ++ codes "\n" ≡ error_line (codes "In " ++ id ++ codes ": " ++ cause)
+    ill_bytes id cause = simp append_assoc
 
 spent_bytes : (id : List ℕ) (budget : ℕ) (text : List ℕ) →
     text ≡ codes "Error: In " ++ (id ++ (codes ": the budget of " ++ (decimal budget ++ codes " steps is spent.\n"))) →

@@ -6,10 +6,12 @@ use Rattle.cic_io.specs.Sending.{SentAll}
 use Rattle.cic_rules.specs.Environment.{Environment}
 use Rattle.cic_top.specs.CommandLine.{FirstNotUnderstood}
 use Rattle.cic_top.specs.Refusals as R
-use Rattle.cic_top.specs.Command.{Contents, Refuses, Accepts, IsAccepted, Answers}
+use Rattle.cic_top.specs.Command.{Contents, Refuses, Accepts, IsAccepted, Answers, is_misread, refuses, accepts}
 use Rattle.cic_top.specs.Sources.{AreContentsOf}
 use Rattle.cic_top.specs.Replies.{Says}
 use Rattle.cic_top.specs.Runs.{UnlessFault, IsOrFault, SaysAndSends, AnswersAsStatedUnlessFaults}
+use Rattle.cic_top.specs.Formed.{AcceptsFormed}
+use Rattle.cic_top.proofs.Compilations.{compiled-is_formed}
 use Rattle.cic_top.proofs.Answered.{no_read_fault, no_sink_fault, no_memory_fault, unless_fault, answered-word, answered-refusal, answered-pass, word-is_answered, refusal-is_answered, pass-is_answered}
 
 -- Over told files the contents are those of the files.
@@ -18,6 +20,22 @@ content-told content told fs is_told h = let P : Option Files → Type 0 = AreCo
 
 sent-told : (old new : Option (List ℕ)) (output sent : List ℕ) → old ≡ Some sent → SentAll old output new → new ≡ Some (sent ++ output)
 sent-told old new output sent is_sent h = let P : Option (List ℕ) → Type 0 = λ o. SentAll o output new in subst P is_sent h
+
+-- A command that passes has an environment that is formed at every numbering.
+passed-formed : {words : List (List ℕ)} {told : Option Files} {a : R.Answer} {output : List ℕ} (content : Contents) → AreContentsOf content told → Answers words content a output →
+    (old new : Option (List ℕ)) → SentAll old output new → a ≡ R.passed → AcceptsFormed words told old new
+passed-formed content of_folder (is_misread m t) old new sends e = absurd cc
+passed-formed content of_folder (refuses m t) old new sends e = absurd cc
+passed-formed content of_folder (accepts {E = E} {output = output} m t) old new sends e = record {
+  E = E;
+  content = content;
+  of_folder = of_folder;
+  accepts = m;
+  formed = λ N _. compiled-is_formed N m.source.compiles;
+  output = output;
+  list = t;
+  sends = sends;
+}
 
 module _ {words : List (List ℕ)} {told : Option Files} {a : R.Answer} {output : List ℕ} (says : Says words told a output) where
   answers-told : (fs : Files) → told ≡ Some fs → Answers words (file_at fs) a output
@@ -47,6 +65,9 @@ module _ {words : List (List ℕ)} {told : Option Files} {a : R.Answer} {output 
 
   pub said-passed_where : (fs : Files) (E : Environment) → told ≡ Some fs → Accepts words (file_at fs) E → IsOrFault a R.passed
   said-passed_where fs E is_told why = inl (pass-is_answered (answers-told fs is_told) E why)
+
+  pub said-formed : (old new : Option (List ℕ)) → SentAll old output new → a ≡ R.passed → AcceptsFormed words told old new
+  said-formed old new sends = passed-formed says.content says.of_folder says.answers old new sends
 
   pub said-no_read_fault : {P : Type 0} → a ≡ R.read_fault → P
   said-no_read_fault = no_read_fault says.answers

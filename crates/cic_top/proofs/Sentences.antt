@@ -3,28 +3,23 @@ use Rattle.std.proofs.Common.{ℕ, zero, suc, List, [], ◌∷◌, ◌≡◌, �
 use Rattle.std.proofs.Math.ListN.{get_or}
 use Rattle.std.proofs.Math.Seq.{drop-cons}
 use Rattle.std.specs.Prelude.{Result, Ok, Err}
-use Rattle.cic_terms.specs.Tree.{Tree, sort, prop}
+use Rattle.cic_terms.specs.Tree.{Tree}
 use Rattle.cic_rules.specs.Environment.{Environment}
 use Rattle.gal_parser.specs.Grammar.{RawTerm, axiom_sentence, Reads, NotYetAt}
 use Rattle.cic_top.specs.CommandLine.{source_name}
-use Rattle.gal_parser.specs.Views.{raw_term, sentence_of, sentences_of}
+use Rattle.gal_parser.specs.Views.{sentence_of, sentences_of}
 use Rattle.gal_parser.specs.declared.command.Command.{Command}
-use Rattle.gal_parser.specs.declared.command.Raw.{Raw}
-use Rattle.gal_parser.specs.declared.command.Raw.TheVariants.{Prop}
+use Rattle.gal_elab.specs.Scoping.{id_of, Declares, StandsFor}
 use Rattle.cic_top.specs.Refusals as R
-use Rattle.cic_top.specs.Compilation.{StandsFor, prop_stands, Declares, id_of, Adds, adds_axiom, IsRefused, duplicate_name, not_accepted, Compiled, Runs, all_run, one_adds, one_is_refused, environment, refusal, Compiles, is_not_yet, is_read}
-use Rattle.cic_top.specs.Compiling.{StopsFor, DeclaresOrRefuses, AddsOrRefuses, RunsOrRefuses, CompilesTo}
+use Rattle.cic_top.specs.Compilation.{Adds, adds_axiom, IsRefused, duplicate_name, unknown_name, not_accepted, Compiled, Runs, all_run, one_adds, one_is_refused, environment, refusal, Compiles, is_not_yet, is_read}
+use Rattle.cic_top.specs.Compiling.{StopsFor, TypeOrUnknown, DeclaresOrRefuses, AddsOrRefuses, RunsOrRefuses, CompilesTo}
 use Rattle.cic_top.specs.Views.{refusal_of}
 use Rattle.cic_top.specs.declared.compiling.Stop.{Stop}
 use Rattle.cic_top.specs.declared.compiling.Stop.TheVariants.{Refused, NoMemory}
 
--- What a written term stands for is Prop.
-pub stands_for_prop : {raw : RawTerm} {t : Tree} → StandsFor raw t → t ≡ sort prop
-stands_for_prop prop_stands = refl
-
 -- A sentence whose name is new adds its axiom, or is refused as the check of the axiom is.
 pub adds_or_refuses : (library name : List ℕ) (raw : RawTerm) (type : Tree) (old new : Environment) (result : Result (Unit {0}) Stop) →
-    ¬ Declares old (id_of library name) → StandsFor raw type → DeclaresOrRefuses old (id_of library name) type result new →
+    ¬ Declares old (id_of library name) → StandsFor library old [] raw type → DeclaresOrRefuses old (id_of library name) type result new →
     AddsOrRefuses library old (axiom_sentence name raw) result new
 adds_or_refuses library name raw type old new (Ok u) is_new stands ((found, accepted), e) =
     subst (λ E. Adds library old (axiom_sentence name raw) E) (sym e) (adds_axiom is_new stands accepted)
@@ -39,9 +34,12 @@ duplicate_refuses library name raw E (Refused r) old e =
     subst (λ reason. IsRefused library E (axiom_sentence name raw) reason) (sym e) (duplicate_name old)
 duplicate_refuses library name raw E NoMemory old e = tt
 
--- A written term of the program stands for Prop.
-pub prop_stands_for : (raw : Raw) → StandsFor (raw_term raw) (sort prop)
-prop_stands_for Prop = prop_stands
+-- A sentence whose name is new and in whose type a name is unknown is refused.
+pub unknown_refuses : (library name : List ℕ) (raw : RawTerm) (E E' : Environment) (stop : Stop) →
+    ¬ Declares E (id_of library name) → TypeOrUnknown library E raw (Err stop) → AddsOrRefuses library E (axiom_sentence name raw) (Err stop) E'
+unknown_refuses library name raw E E' (Refused r) is_new (first, unknown, e) =
+    subst (λ reason. IsRefused library E (axiom_sentence name raw) reason) (sym e) (unknown_name is_new unknown)
+unknown_refuses library name raw E E' NoMemory is_new told = tt
 
 -- What the sentences from a place on give from this environment, all give from the first.
 abbrev pub RestGives : List ℕ → Environment → Environment → List Command → ℕ → Type 0

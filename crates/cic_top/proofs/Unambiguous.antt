@@ -2,14 +2,14 @@
 use Rattle.std.proofs.Common.{ℕ, List, [], ◌++◌, ◌≡◌, ◌≤◌, ◌<◌, length, drop, inl, inr, refl, sym, ap, subst, ◌∙◌, append-nil, arith, codes}
 use Rattle.std.proofs.lemmas.Bool.{cases_order, cases_lt}
 use Rattle.std.proofs.lemmas.List.{append_cancel_right, take-append-drop}
-use Rattle.cic_terms.specs.Tree.{Tree}
+use Rattle.gal_elab.proofs.Determined.{one_term, not_both, one_unknown}
 use Rattle.cic_rules.specs.Environment.{Environment}
 use Rattle.gal_parser.specs.Tokens.{after_blanks}
-use Rattle.gal_parser.specs.Grammar.{SpellsSentences, no_sentence, one_more, Reads, NotYetAt, too_long, unread, RawTerm, Sentence}
+use Rattle.gal_parser.specs.Grammar.{SpellsSentences, no_sentence, one_more, Reads, NotYetAt, too_long, unread, Sentence}
 use Rattle.gal_parser.proofs.GrammarLaws.{one_sentence, sentence_shortens, no_sentence_at_end}
 use Rattle.cic_top.specs.CommandLine.{source_name, CommandLine, coqc, FirstNotUnderstood}
-use Rattle.cic_top.specs.Refusals.{Refusal}
-use Rattle.cic_top.specs.Compilation.{StandsFor, prop_stands, Adds, adds_axiom, IsRefused, duplicate_name, not_accepted, Compiled, refusal, Runs, all_run, one_adds, one_is_refused, Compiles, is_not_yet, is_read}
+use Rattle.cic_top.specs.Refusals.{Refusal, unknown}
+use Rattle.cic_top.specs.Compilation.{Adds, adds_axiom, IsRefused, duplicate_name, unknown_name, not_accepted, Compiled, refusal, Runs, all_run, one_adds, one_is_refused, Compiles, is_not_yet, is_read}
 
 -- Words are the command line of one library.
 pub one_library : {words : List (List ℕ)} {a b : List ℕ} → CommandLine words a → CommandLine words b → a ≡ b
@@ -99,26 +99,28 @@ one_place (unread short at) (unread short' at') =
     let position' = at'.position in
     omega arith
 
--- A written term stands for one term.
-pub one_meaning : {raw : RawTerm} {t u : Tree} → StandsFor raw t → StandsFor raw u → t ≡ u
-one_meaning prop_stands prop_stands = refl
-
 -- A sentence adds one declaration or is refused for one reason.
 one_addition : {library : List ℕ} {E E' E'' : Environment} {s : Sentence} → Adds library E s E' → Adds library E s E'' → E' ≡ E''
 one_addition (adds_axiom new stands accepted) (adds_axiom new' stands' accepted') =
-    let same = one_meaning stands stands' in cc
+    let same = one_term stands stands' in cc
 
 not_added_and_refused : {library : List ℕ} {E E' : Environment} {s : Sentence} {r : Refusal} → Adds library E s E' → IsRefused library E s r → ⊥
 not_added_and_refused (adds_axiom new stands accepted) (duplicate_name old) = new old
+not_added_and_refused (adds_axiom new stands accepted) (unknown_name new' first) = not_both stands first
 not_added_and_refused (adds_axiom new stands accepted) (not_accepted new' stands' rejected) =
-    let same = one_meaning stands stands' in cc
+    let same = one_term stands stands' in cc
 
 one_refusal : {library : List ℕ} {E : Environment} {s : Sentence} {r r' : Refusal} → IsRefused library E s r → IsRefused library E s r' → r ≡ r'
 one_refusal (duplicate_name old) (duplicate_name old') = refl
+one_refusal (duplicate_name old) (unknown_name new first) = absurd (new old)
 one_refusal (duplicate_name old) (not_accepted new stands rejected) = absurd (new old)
+one_refusal (unknown_name new first) (duplicate_name old) = absurd (new old)
+one_refusal (unknown_name new first) (unknown_name new' first') = ap unknown (one_unknown first first')
+one_refusal (unknown_name new first) (not_accepted new' stands rejected) = absurd (not_both stands first)
 one_refusal (not_accepted new stands rejected) (duplicate_name old) = absurd (new old)
+one_refusal (not_accepted new stands rejected) (unknown_name new' first) = absurd (not_both stands first)
 one_refusal (not_accepted new stands rejected) (not_accepted new' stands' rejected') =
-    let same = one_meaning stands stands' in cc
+    let same = one_term stands stands' in cc
 
 -- Sentences run in one way.
 pub one_run : {library : List ℕ} {E : Environment} {ss : List Sentence} {c d : Compiled} → Runs library E ss c → Runs library E ss d → c ≡ d

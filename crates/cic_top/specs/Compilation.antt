@@ -1,36 +1,25 @@
 -- How a source is compiled: each sentence, in order, declares something or is refused.
-use Rattle.std.specs.Prelude.{ℕ, ◌≡◌, List, [], ◌∷◌, ◌++◌, Contains}
-use Rattle.cic_terms.specs.Tree.{Tree, sort, prop}
+use Rattle.std.specs.Prelude.{ℕ, ◌≡◌, List, [], ◌∷◌, ◌++◌}
+use Rattle.cic_terms.specs.Tree.{Tree}
 use Rattle.cic_terms.specs.declared.name.GlobalId.{GlobalId}
-use Rattle.cic_rules.specs.Environment.{Environment, environment_ids, axiom_of, declared}
+use Rattle.cic_rules.specs.Environment.{Environment, axiom_of, declared}
 use Rattle.cic_counted.specs.Outcome as O
 use Rattle.cic_counted.specs.Checking.{Found, accepts, rejects, check_declaration}
 use Rattle.gal_parser.specs.Grammar as G
-use Rattle.cic_top.specs.Refusals.{Refusal, duplicate, ill, spent, deep, not_yet}
+use Rattle.gal_elab.specs.Scoping.{id_of, Declares, StandsFor, FirstUnknown}
+use Rattle.cic_top.specs.Refusals.{Refusal, duplicate, unknown, ill, spent, deep, not_yet}
 use Rattle.cic_top.specs.CommandLine.{source_name}
 
 -- The steps that the check of one declaration may take, calls and reductions together.
 abbrev pub default_budget : ℕ
 default_budget = 1000000
 
--- The id of a name of a library.
-abbrev pub id_of : (library name : List ℕ) → GlobalId
-id_of library name = record { lib = library; name = name }
-
--- A term as it is written stands for a term.
-pub data StandsFor : G.RawTerm → Tree → Type 0 where
-  prop_stands : StandsFor G.prop (sort prop)
-
--- The environment declares the id.
-abbrev pub Declares : Environment → GlobalId → Type 0
-Declares E id = Contains (environment_ids E) id
-
--- A sentence of the library takes the environment to one with one more declaration: its name is new,
--- and the declaration is accepted.
+-- A sentence of the library takes the environment to one with one more declaration: its name is new, its
+-- type stands for a term, and the declaration is accepted.
 pub data Adds (library : List ℕ) (E : Environment) : G.Sentence → Environment → Type 0 where
   adds_axiom : {name : List ℕ} {raw : G.RawTerm} {type : Tree} {found : Found} →
       ¬ Declares E (id_of library name) →
-      StandsFor raw type →
+      StandsFor library E [] raw type →
       check_declaration E (axiom_of (id_of library name) type) default_budget ≡ accepts found →
       Adds library E (G.axiom_sentence name raw) (E ++ declared (axiom_of (id_of library name) type) ∷ [])
 
@@ -40,15 +29,19 @@ check_refusal id (O.refused cause) = ill id cause
 check_refusal id O.spent = spent id default_budget
 check_refusal id O.deep = deep id
 
--- A sentence of the library is refused: its name is declared already, which is judged first, or its
--- declaration is not accepted.
+-- A sentence of the library is refused: its name is declared already, which is judged first; or a name
+-- in its type is unknown, of which the first is told; or its declaration is not accepted.
 pub data IsRefused (library : List ℕ) (E : Environment) : G.Sentence → Refusal → Type 0 where
   duplicate_name : {name : List ℕ} {raw : G.RawTerm} →
       Declares E (id_of library name) →
       IsRefused library E (G.axiom_sentence name raw) (duplicate name)
+  unknown_name : {name first : List ℕ} {raw : G.RawTerm} →
+      ¬ Declares E (id_of library name) →
+      FirstUnknown library E [] raw first →
+      IsRefused library E (G.axiom_sentence name raw) (unknown first)
   not_accepted : {name : List ℕ} {raw : G.RawTerm} {type : Tree} {stopped : O.Stopped} →
       ¬ Declares E (id_of library name) →
-      StandsFor raw type →
+      StandsFor library E [] raw type →
       check_declaration E (axiom_of (id_of library name) type) default_budget ≡ rejects stopped →
       IsRefused library E (G.axiom_sentence name raw) (check_refusal (id_of library name) stopped)
 

@@ -7,7 +7,10 @@ use Rattle.cic_counted.specs.Outcome.{Stopped}
 use Rattle.cic_counted.specs.Checking.{Found, accepts, rejects, check_declaration}
 use Rattle.cic_env.specs.Environments.{items}
 use Rattle.cic_env.specs.declared.environment.Env.{Env}
-use Rattle.gal_parser.specs.Grammar.{Sentence}
+use Rattle.cic_terms.specs.declared.term.Term.{Term}
+use Rattle.cic_terms.specs.Denotes.{tree}
+use Rattle.gal_parser.specs.Grammar.{Sentence, RawTerm}
+use Rattle.gal_elab.specs.Scoping.{StandsFor, FirstUnknown}
 use Rattle.cic_top.specs.Refusals as R
 use Rattle.cic_top.specs.Compilation.{Adds, IsRefused, default_budget, check_refusal, Runs, Compiles, environment, refusal}
 use Rattle.cic_top.specs.Views.{refusal_of}
@@ -18,6 +21,12 @@ use Rattle.cic_top.specs.declared.compiling.Stop.TheVariants.{Refused, NoMemory}
 abbrev pub StopsFor : Stop → R.Refusal → Type 0
 StopsFor (Refused r) wanted = refusal_of r ≡ wanted
 StopsFor NoMemory wanted = Unit {0}
+
+-- The written type stands for the term, or has a first unknown name.
+abbrev pub TypeOrUnknown : List ℕ → Environment → RawTerm → Result Term Stop → Type 0
+TypeOrUnknown library E raw (Ok t) = StandsFor library E [] raw (tree t)
+TypeOrUnknown library E raw (Err (Refused r)) = (name : List ℕ) × FirstUnknown library E [] raw name × (refusal_of r ≡ R.unknown name)
+TypeOrUnknown library E raw (Err NoMemory) = Unit {0}
 
 -- The check of the declaration of the id accepts it, or refuses it.
 abbrev pub PassesOrRefuses : Environment → GlobalId → Declaration → Result (Unit {0}) Stop → Type 0

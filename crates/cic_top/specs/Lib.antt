@@ -11,3 +11,4 @@ pub mod Compiling
 pub mod Sources
 pub mod Reading
 pub mod Runs
+pub mod Formed

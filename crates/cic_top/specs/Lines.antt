@@ -2,14 +2,14 @@
 use Rattle.std.specs.Prelude.{ℕ, List, [], ◌≡◌, map, string_bytes}
 use Rattle.std.specs.declared.string.String.{String}
 use Rattle.std.specs.declared.alloc.Global.{Global}
-use Rattle.cic_terms.specs.Tree.{Tree}
 use Rattle.cic_rules.specs.Environment.{Environment}
+use Rattle.cic_counted.specs.Outcome.{Cause}
 use Rattle.cic_top.specs.Refusals.{Refusal}
-use Rattle.cic_top.specs.Texts.{Prints, AxiomLine, AxiomLines, insert_lines, IsRefusalLine}
+use Rattle.cic_top.specs.Texts.{IsCauseText, AxiomLine, AxiomLines, insert_lines, IsRefusalLine}
 
--- The term is one that is printed.
-abbrev pub HasText : Tree → Type 0
-HasText t = (text : List ℕ) × Prints t text
+-- The cause of a refusal is one that is told.
+abbrev pub HasCauseText : Cause → Type 0
+HasCauseText cause = (text : List ℕ) × IsCauseText cause text
 
 -- The environment has axioms alone, whose types are printed.
 abbrev pub HasAxiomLines : Environment → Type 0

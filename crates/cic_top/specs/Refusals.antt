@@ -4,12 +4,13 @@ use Rattle.cic_terms.specs.declared.name.GlobalId.{GlobalId}
 use Rattle.cic_counted.specs.Outcome.{Cause}
 
 -- A refusal, with what it names: a file that is not there; the place of a source from which on it is
--- not understood; a name that is declared twice; a declaration that is ill formed, whose check spends
--- the budget, or that is too deep.
+-- not understood; a name that is declared twice; a name that is not declared; a declaration that is ill
+-- formed, whose check spends the budget, or that is too deep.
 pub data Refusal : Type 0 where
   no_file : (name : List ℕ) → Refusal
   not_yet : (name : List ℕ) → (place : ℕ) → Refusal
   duplicate : (name : List ℕ) → Refusal
+  unknown : (name : List ℕ) → Refusal
   ill : (id : GlobalId) → Cause → Refusal
   spent : (id : GlobalId) → (budget : ℕ) → Refusal
   deep : (id : GlobalId) → Refusal
@@ -27,6 +28,7 @@ abbrev pub refusal_status : Refusal → ℕ
 refusal_status (no_file name) = 3
 refusal_status (not_yet name place) = 1
 refusal_status (duplicate name) = 1
+refusal_status (unknown name) = 1
 refusal_status (ill id cause) = 1
 refusal_status (spent id budget) = 4
 refusal_status (deep id) = 4

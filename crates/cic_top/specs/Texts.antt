@@ -4,18 +4,12 @@ use Rattle.std.specs.Ordering.{nat_cmp}
 use Rattle.std.specs.Cmp.Lexicographic.{slice_cmp}
 use Rattle.std.specs.declared.cmp.Ordering.{Ordering}
 use Rattle.std.specs.declared.cmp.Ordering.TheVariants.{Less, Equal, Greater}
-use Rattle.cic_terms.specs.Tree.{Tree, sort, prop}
+use Rattle.cic_terms.specs.Tree.{Tree}
 use Rattle.cic_terms.specs.declared.name.GlobalId.{GlobalId}
 use Rattle.cic_rules.specs.Environment.{Environment, declared, axiom_of}
-use Rattle.cic_top.specs.Refusals.{Refusal, no_file, not_yet, duplicate, spent, deep}
-
--- An id is printed as the library, a dot, and the name.
-abbrev pub id_text : GlobalId → List ℕ
-id_text id = id.lib ++ codes "." ++ id.name
-
--- A term and how it is printed. The terms of this language are Prop alone.
-pub data Prints : Tree → List ℕ → Type 0 where
-  prop_is_printed : Prints (sort prop) (codes "Prop")
+use Rattle.cic_counted.specs.Outcome.{Cause, unbound, global, local, not_sort}
+use Rattle.gal_print.specs.Printing.{id_text, Prints}
+use Rattle.cic_top.specs.Refusals.{Refusal, no_file, not_yet, duplicate, unknown, ill, spent, deep}
 
 -- A line of the list of axioms: a printed id and a printed type.
 pub record AxiomLine : Type 0 where
@@ -29,7 +23,7 @@ line_text line = line.id ++ codes " : " ++ line.type ++ codes "\n"
 pub data AxiomLines : Environment → List AxiomLine → Type 0 where
   no_item : AxiomLines [] []
   one_axiom : {E : Environment} {id : GlobalId} {type : Tree} {text : List ℕ} {lines : List AxiomLine} →
-      Prints type text →
+      Prints 0 type text →
       AxiomLines E lines →
       AxiomLines (declared (axiom_of id type) ∷ E) (record { id = id_text id; type = text } ∷ lines)
 
@@ -71,7 +65,18 @@ error_line text = codes "Error: " ++ text ++ codes "\n"
 abbrev pub word_line : ℕ → List ℕ
 word_line k = error_line (codes "word " ++ decimal k ++ codes " is not understood.")
 
--- A refusal and its line. An ill-formed declaration has none yet: the language has none.
+-- Why a declaration of the language is ill formed, as it is told. The term that is no sort stands in a
+-- context of so many variables.
+pub data IsCauseText : Cause → List ℕ → Type 0 where
+  not_sort_text : {depth : ℕ} {form : Tree} {text : List ℕ} →
+      Prints depth form text →
+      IsCauseText (not_sort depth form) (text ++ codes " is not a sort.")
+  unbound_id_text : {id : GlobalId} →
+      IsCauseText (unbound (global id)) (id_text id ++ codes " is unbound.")
+  unbound_variable_text : {k : ℕ} →
+      IsCauseText (unbound (local k)) (codes "variable " ++ decimal k ++ codes " is unbound.")
+
+-- A refusal and its line.
 pub data IsRefusalLine : Refusal → List ℕ → Type 0 where
   no_file_line : {name : List ℕ} →
       IsRefusalLine (no_file name) (error_line (codes "no file " ++ name ++ codes "."))
@@ -79,6 +84,11 @@ pub data IsRefusalLine : Refusal → List ℕ → Type 0 where
       IsRefusalLine (not_yet name place) (error_line (name ++ codes ": not yet at byte " ++ decimal place ++ codes "."))
   duplicate_line : {name : List ℕ} →
       IsRefusalLine (duplicate name) (error_line (codes "duplicate name " ++ name ++ codes "."))
+  unknown_line : {name : List ℕ} →
+      IsRefusalLine (unknown name) (error_line (codes "unknown name " ++ name ++ codes "."))
+  ill_line : {id : GlobalId} {cause : Cause} {text : List ℕ} →
+      IsCauseText cause text →
+      IsRefusalLine (ill id cause) (error_line (codes "In " ++ id_text id ++ codes ": " ++ text))
   spent_line : {id : GlobalId} {budget : ℕ} →
       IsRefusalLine (spent id budget)
       (error_line (codes "In " ++ id_text id ++ codes ": the budget of " ++ decimal budget ++ codes " steps is spent."))

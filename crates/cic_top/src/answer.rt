@@ -15,6 +15,8 @@ pub enum Refusal {
     NotYet { name: FileName, place: u32 },
     /// The name is declared already.
     Duplicate { name: Name },
+    /// The name is no binder's and not declared.
+    Unknown { name: Name },
     /// The declaration is ill formed.
     Ill { id: GlobalId, cause: Cause },
     /// The check of the declaration takes more steps than the budget.
@@ -46,7 +48,10 @@ impl Refusal {
     {
         match self {
             Refusal::NoFile { .. } => 3,
-            Refusal::NotYet { .. } | Refusal::Duplicate { .. } | Refusal::Ill { .. } => 1,
+            Refusal::NotYet { .. }
+            | Refusal::Duplicate { .. }
+            | Refusal::Unknown { .. }
+            | Refusal::Ill { .. } => 1,
             Refusal::Spent { .. } | Refusal::Deep { .. } => 4,
         }
     }

@@ -1,20 +1,21 @@
 ghost use Rattle.std.specs.Prelude.{◌≡◌, ◌++◌, ◌∷◌, [], codes, IfOk, OnOk};
-ghost use Rattle.cic_terms.specs.Tree.{sort, prop};
 ghost use Rattle.cic_env.specs.Declarations.{declaration, decl_id, item};
 ghost use Rattle.cic_env.specs.Environments.{items};
 ghost use Rattle.cic_terms.specs.Denotes.{tree};
+ghost use Rattle.gal_parser.specs.Grammar.{axiom_sentence};
 ghost use Rattle.gal_parser.specs.Views.{raw_term, sentence_of, sentences_of};
 ghost use Rattle.cic_top.specs.CommandLine.{IsName, source_name};
-ghost use Rattle.cic_kernel.specs.Language.{IsOfLanguage};
+ghost use Rattle.cic_kernel.specs.Language.{TermOfLanguage, IsOfLanguage, EnvironmentOfLanguage};
 ghost use Rattle.cic_top.specs.Refusals.{duplicate, not_yet};
-ghost use Rattle.cic_top.specs.Compilation.{StandsFor, Declares, id_of};
-ghost use Rattle.cic_top.specs.Compiling.{StopsFor, PassesOrRefuses, DeclaresOrRefuses, AddsOrRefuses, RunsOrRefuses, CompilesTo};
+ghost use Rattle.gal_elab.specs.Scoping.{Declares, id_of};
+ghost use Rattle.cic_top.specs.Compiling.{StopsFor, TypeOrUnknown, PassesOrRefuses, DeclaresOrRefuses, AddsOrRefuses, RunsOrRefuses, CompilesTo};
 
 use crate::answer::Refusal;
 use cic_env::{Decl, Env, PushFault, Verdict};
 use cic_io::{FileName, FileNameFault};
 use cic_kernel::check_decl;
-use cic_terms::{GlobalId, Name, NoMemory, Sort, Term};
+use cic_terms::{GlobalId, Name, NoMemory, Term};
+use gal_elab::{ElabFault, elab_type};
 use gal_parser::{Command, ParseFault, Raw, parse};
 use std::alloc::Global;
 
@@ -39,12 +40,14 @@ impl From<NoMemory> for Stop {
     }
 }
 
-/// The term for which a written term stands.
-fn term_of(raw: &Raw) -> Term
-    ensures { StandsFor (raw_term raw.now) (tree result) }
+/// The term for which a written type stands, or the refusal of its first unknown name.
+fn type_of(alloc: Global, library: &Name, env: &Env, raw: &Raw) -> Result<Term, Stop>
+    ensures { TypeOrUnknown library.now (items env.now) (raw_term raw.now) result }
 {
-    match raw {
-        Raw::Prop => Term::Sort(Sort::Prop),
+    match elab_type(alloc, library, env, raw) {
+        Ok(ty) => Ok(ty),
+        Err(ElabFault::Unknown { name }) => Err(Stop::Refused(Refusal::Unknown { name })),
+        Err(ElabFault::NoMemory) => Err(Stop::NoMemory),
     }
 }
 
@@ -72,6 +75,7 @@ fn duplicate(name: &Name) -> Stop
 /// Checks a declaration of the id, within the budget.
 fn judge(alloc: Global, env: &mut Env, decl: &Decl, id: GlobalId) -> Result<(), Stop>
     requires language { IsOfLanguage (declaration decl.now) }
+    requires environment { EnvironmentOfLanguage (items env.old) }
     ensures verdict { PassesOrRefuses (items env.old) id (declaration decl.now) result }
     ensures same { items env.new ≡ items env.old }
 {
@@ -102,7 +106,8 @@ fn add(env: &mut Env, decl: Decl) -> Result<(), NoMemory>
 /// Checks and adds an axiom whose id is new.
 fn declare(alloc: Global, env: &mut Env, id: GlobalId, ty: Term) -> Result<(), Stop>
     requires new { ¬ Declares (items env.old) id }
-    requires language { tree ty ≡ sort prop }
+    requires language { TermOfLanguage (tree ty) }
+    requires environment { EnvironmentOfLanguage (items env.old) }
     ensures { DeclaresOrRefuses (items env.old) id (tree ty) result (items env.new) }
 {
     let decl = Decl::Axiom { id: id.copy()?, ty };
@@ -115,17 +120,26 @@ fn declare(alloc: Global, env: &mut Env, id: GlobalId, ty: Term) -> Result<(), S
     }
 }
 
-/// Runs one sentence of the library.
-#[tactic(auto, using(crate::proofs::Sentences::adds_or_refuses, crate::proofs::Sentences::duplicate_refuses, crate::proofs::Sentences::stands_for_prop))]
-fn run_sentence(alloc: Global, library: &Name, env: &mut Env, command: &Command) -> Result<(), Stop>
-    ensures { AddsOrRefuses library.now (items env.old) (sentence_of command.now) result (items env.new) }
+/// The name and the type of an axiom, which is the one sentence of this language.
+fn axiom_parts(command: &Command) -> (&Name, &Raw)
+    ensures { sentence_of command.now ≡ axiom_sentence result.0.now (raw_term result.1.now) }
 {
     let Command::Axiom { name, ty } = command;
+    (name, ty)
+}
+
+/// Runs one sentence of the library.
+fn run_sentence(alloc: Global, library: &Name, env: &mut Env, command: &Command) -> Result<(), Stop>
+    requires { EnvironmentOfLanguage (items env.old) }
+    ensures { AddsOrRefuses library.now (items env.old) (sentence_of command.now) result (items env.new) }
+{
+    let (name, ty) = axiom_parts(command);
     let id = id_of(library, name)?;
     if env.declares(&id) {
         return Err(duplicate(name));
     }
-    declare(alloc, env, id, term_of(ty))
+    let ty = type_of(alloc, library, env, ty)?;
+    declare(alloc, env, id, ty)
 }
 
 /// The name of the source of a library.
@@ -159,6 +173,7 @@ fn run_sentences(
     env: &mut Env,
     commands: &[Command],
 ) -> Result<(), Stop>
+    requires { EnvironmentOfLanguage (items env.old) }
     ensures { RunsOrRefuses library.now (items env.old) (sentences_of commands.now) result (items env.new) }
 {
     for command in commands {

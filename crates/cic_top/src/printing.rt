@@ -1,27 +1,32 @@
-ghost use Rattle.std.specs.Prelude.{◌≡◌, ◌++◌, IfOk, OnOk, Ok, string_bytes};
+ghost use Rattle.std.specs.Prelude.{◌≡◌, ◌++◌, IfOk, OnOk, Ok, string_bytes, decimal};
 ghost use Rattle.cic_env.specs.Declarations.{declaration};
 ghost use Rattle.cic_env.specs.Environments.{items};
 ghost use Rattle.cic_rules.specs.Environment.{axiom_of};
 ghost use Rattle.cic_terms.specs.Denotes.{tree};
-ghost use Rattle.cic_top.specs.Texts.{Prints, AxiomLines, IsAxiomList, IsRefusalLine, id_text, word_line, line_text, lines_text};
+ghost use Rattle.gal_print.specs.Printing.{HasText, Prints, id_text};
+ghost use Rattle.gal_print.specs.Appending.{Appends};
+ghost use Rattle.cic_counted.specs.Outcome.{unbound};
+ghost use Rattle.cic_env.specs.Verdicts.{cause_of, missing_of};
+ghost use Rattle.cic_top.specs.Texts.{IsCauseText, AxiomLines, IsAxiomList, IsRefusalLine, word_line, line_text, lines_text};
+ghost use Rattle.cic_top.specs.Refusals.{ill};
 ghost use Rattle.cic_top.specs.Views.{refusal_of};
-ghost use Rattle.cic_top.specs.Lines.{HasText, HasAxiomLines, HasLine, AreSortedAxioms, lines_of};
+ghost use Rattle.cic_top.specs.Lines.{HasCauseText, HasAxiomLines, HasLine, AreSortedAxioms, lines_of};
 
 use crate::answer::Refusal;
-use cic_env::{Decl, Env};
-use cic_terms::{GlobalId, NoMemory, Sort, Term};
+use cic_env::{Cause, Decl, Env, Missing};
+use cic_terms::{GlobalId, NoMemory, Term};
+use gal_print::{print_id, print_term};
 use std::alloc::{AllocError, Global};
 use std::collections::BTreeMap;
 
-/// A term, printed.
-fn term_text(t: &Term) -> &'static str
+/// A closed term, printed.
+fn printed_term(alloc: Global, t: &Term) -> Result<String, NoMemory>
     requires { HasText (tree t.now) }
-    ensures { Prints (tree t.now) result.now }
+    ensures { IfOk result (λ text. Prints 0 (tree t.now) (string_bytes text)) }
 {
-    match t {
-        Term::Sort(Sort::Prop) => "Prop",
-        _ => unreachable!(),
-    }
+    let mut text = String::new(alloc);
+    print_term(&mut text, 0, t)?;
+    Ok(text)
 }
 
 /// A text, where there was memory for it.
@@ -58,7 +63,7 @@ fn sorted_axioms(alloc: Global, env: &Env) -> Result<BTreeMap<String, String>, N
     for decl in env.decls() {
         let (id, ty) = axiom_parts(decl);
         let id = printed_id(alloc, id)?;
-        let ty = with_memory(String::from_str(alloc, term_text(ty)))?;
+        let ty = printed_term(alloc, ty)?;
         if sorted.insert(id, ty).is_err() {
             return Err(NoMemory);
         }
@@ -71,6 +76,16 @@ fn push_part(text: &mut String, part: &str) -> Result<(), NoMemory>
     ensures { OnOk result (string_bytes text.new ≡ string_bytes text.old ++ part.now) }
 {
     match text.push_str(part) {
+        Ok(()) => Ok(()),
+        Err(_) => Err(NoMemory),
+    }
+}
+
+/// Adds a number.
+fn push_number(text: &mut String, number: u32) -> Result<(), NoMemory>
+    ensures { OnOk result (string_bytes text.new ≡ string_bytes text.old ++ decimal number) }
+{
+    match write!(text, "{number}") {
         Ok(()) => Ok(()),
         Err(_) => Err(NoMemory),
     }
@@ -110,7 +125,52 @@ pub(crate) fn axiom_list(alloc: Global, env: &Env) -> Result<String, NoMemory>
     Ok(text)
 }
 
-/// The line of a refusal. A declaration of this language is not ill formed.
+/// Adds that an id or a variable is not there.
+fn push_unbound(text: &mut String, what: &Missing) -> Result<(), NoMemory>
+    ensures { OnOk result (Appends (IsCauseText (unbound (missing_of what.now))) (string_bytes text.old) (string_bytes text.new)) }
+{
+    match what {
+        Missing::Global(id) => {
+            print_id(text, id)?;
+            push_part(text, " is unbound.")
+        }
+        Missing::Local(k) => {
+            push_part(text, "variable ")?;
+            push_number(text, *k)?;
+            push_part(text, " is unbound.")
+        }
+    }
+}
+
+/// Adds why a declaration of the language is ill formed.
+fn push_cause(text: &mut String, cause: &Cause) -> Result<(), NoMemory>
+    requires { HasCauseText (cause_of cause.now) }
+    ensures { OnOk result (Appends (IsCauseText (cause_of cause.now)) (string_bytes text.old) (string_bytes text.new)) }
+{
+    match cause {
+        Cause::NotSort { depth, form } => {
+            print_term(text, *depth, form)?;
+            push_part(text, " is not a sort.")
+        }
+        Cause::Unbound { what } => push_unbound(text, what),
+        _ => unreachable!(),
+    }
+}
+
+/// The line of an ill-formed declaration.
+fn ill_line(alloc: Global, id: &GlobalId, cause: &Cause) -> Result<String, NoMemory>
+    requires { HasCauseText (cause_of cause.now) }
+    ensures { IfOk result (λ text. IsRefusalLine (ill id.now (cause_of cause.now)) (string_bytes text)) }
+{
+    let mut text = with_memory(String::from_str(alloc, "Error: In "))?;
+    print_id(&mut text, id)?;
+    push_part(&mut text, ": ")?;
+    push_cause(&mut text, cause)?;
+    push_part(&mut text, "\n")?;
+    Ok(text)
+}
+
+/// The line of a refusal.
 pub(crate) fn refusal_line(alloc: Global, refusal: &Refusal) -> Result<String, NoMemory>
     requires { HasLine (refusal_of refusal.now) }
     ensures { IfOk result (λ text. IsRefusalLine (refusal_of refusal.now) (string_bytes text)) }
@@ -126,7 +186,10 @@ pub(crate) fn refusal_line(alloc: Global, refusal: &Refusal) -> Result<String, N
         Refusal::Duplicate { name } => {
             with_memory(format!(in alloc; "Error: duplicate name {}.\n", name.text()))
         }
-        Refusal::Ill { .. } => unreachable!(),
+        Refusal::Unknown { name } => {
+            with_memory(format!(in alloc; "Error: unknown name {}.\n", name.text()))
+        }
+        Refusal::Ill { id, cause } => ill_line(alloc, id, cause),
         Refusal::Spent { id, budget } => {
             let id = printed_id(alloc, id)?;
             with_memory(format!(in alloc;

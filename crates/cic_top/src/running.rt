@@ -11,6 +11,7 @@ ghost use Rattle.cic_top.specs.Sources.{Fits};
 ghost use Rattle.cic_top.specs.Command.{Refuses, Accepts, IsAccepted};
 ghost use Rattle.cic_top.specs.Replies.{RepliesTo, Says};
 ghost use Rattle.cic_top.specs.Runs.{UnlessFault, IsOrFault, SaysAndSends, SaysAndSendsPart, AnswersAsStatedUnlessFaults};
+ghost use Rattle.cic_top.specs.Formed.{AcceptsFormed};
 ghost use Rattle.cic_top.specs.Views.{answer_of, refusal_of};
 ghost use Rattle.cic_top.specs.Replying.{RepliesRefusal, RepliesList, RepliesWord, RepliesStop, StopHasLine, OnlyNoMemory};
 
@@ -167,6 +168,8 @@ pub fn run<F: Folder, O: Sink>(alloc: Global, words: &Words, folder: &mut F, out
         IsAccepted words.now (file_at fs) }
     ensures passed_where { (fs : Files) (E : Environment) → F.files folder.old ≡ Some fs → Accepts words.now (file_at fs) E →
         IsOrFault (answer_of result) passed }
+    // Where it passes, over any folder, the environment is formed at every numbering, and its axioms were printed.
+    ensures formed { answer_of result ≡ passed → AcceptsFormed words.now (F.files folder.old) (O.sent out.old) (O.sent out.new) }
     ensures read_fault { answer_of result ≡ read_fault → Rose (F.read_faults folder.old) (F.read_faults folder.new) }
     ensures sink_fault { answer_of result ≡ sink_fault → Rose (O.faults out.old) (O.faults out.new) }
     ensures read_quiet { (answer_of result ≡ read_fault → ⊥) → F.read_faults folder.new ≡ F.read_faults folder.old }

@@ -76,6 +76,9 @@ fn lists_of_axioms(rt: HostRuntime) -> Result<(), Fail> {
     let both = "Axioms:\nA.P : Prop\nA.Q : Prop\n";
     compiles(&rt, alloc, b"Axiom P : Prop. Axiom Q : Prop.", 0, both)?;
     compiles(&rt, alloc, b"Axiom Q : Prop. Axiom P : Prop.", 0, both)?;
+    let types = "Axioms:\nA.P : Prop\nA.p : A.P -> A.P\nA.q : forall x0 : Prop, x0\n";
+    let source = b"Axiom P : Prop. Axiom p : P -> P. Axiom q : forall x : Prop, x.";
+    compiles(&rt, alloc, source, 0, types)?;
     let by_bytes = "Axioms:\nA.B : Prop\nA.a : Prop\nA.a' : Prop\nA.a_ : Prop\n";
     let source = b"Axiom a_ : Prop. Axiom a' : Prop. Axiom B : Prop. Axiom a : Prop.";
     compiles(&rt, alloc, source, 0, by_bytes)
@@ -87,7 +90,17 @@ fn refused(rt: HostRuntime) -> Result<(), Fail> {
     let absent = "Error: no file A.v.\n";
     answers(&rt, alloc, &["coqc", "A.v"], None, 3, absent)?;
     let duplicate = "Error: duplicate name a.\n";
-    compiles(&rt, alloc, b"Axiom a : Prop. Axiom a : Prop.", 1, duplicate)
+    compiles(&rt, alloc, b"Axiom a : Prop. Axiom a : Prop.", 1, duplicate)?;
+    compiles(&rt, alloc, b"Axiom a : Prop. Axiom a : b.", 1, duplicate)?;
+    compiles(&rt, alloc, b"Axiom a : b.", 1, "Error: unknown name b.\n")?;
+    let ill = "Error: In A.b: A.P is not a sort.\n";
+    compiles(
+        &rt,
+        alloc,
+        b"Axiom P : Prop. Axiom p : P. Axiom b : p.",
+        1,
+        ill,
+    )
 }
 
 #[test]

@@ -30,6 +30,12 @@ fn main(rt: HostRuntime) -> io::Result<()> {
         "coqc M.v",
         "coqc D.v",
         "coqc N.v",
+        "coqc R.v",
+        "coqc I.v",
+        "coqc U.v",
+        "coqc L.v",
+        "coqc F.v",
+        "coqc G.v",
     ];
     for line in lines {
         row(&rt, line)?;

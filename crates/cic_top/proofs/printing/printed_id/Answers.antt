@@ -1,6 +1,6 @@
 use Rattle.std.proofs.Common.{ℕ, List, ◌≡◌, ◌++◌, codes, ap, ◌∙◌, append_assoc}
 use Rattle.std.specs.String.{string_bytes}
-use Rattle.cic_top.specs.Texts.{id_text}
+use Rattle.gal_print.specs.Printing.{id_text}
 use Rattle.cic_top.proofs.Printed.{made_text}
 use Rattle.cic_top.proofs.printing.printed_id.Goals as goal
 

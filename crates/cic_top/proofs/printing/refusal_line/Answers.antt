@@ -1,9 +1,9 @@
 use Rattle.std.proofs.Common.{ℕ, List, ◌≡◌, ◌++◌, codes, decimal, ap, sym, ◌∙◌}
 use Rattle.std.specs.String.{string_bytes}
-use Rattle.cic_top.specs.Refusals.{no_file, not_yet, duplicate}
+use Rattle.cic_top.specs.Refusals.{no_file, not_yet, duplicate, unknown}
 use Rattle.cic_top.specs.Texts.{IsRefusalLine}
 use Rattle.cic_top.specs.Views.{refusal_of}
-use Rattle.cic_top.proofs.Printed.{made_text, no_file_text, not_yet_text, duplicate_text, spent_text, deep_text}
+use Rattle.cic_top.proofs.Printed.{made_text, no_file_text, not_yet_text, duplicate_text, unknown_text, spent_text, deep_text}
 use Rattle.cic_top.proofs.printing.refusal_line.Goals as goal
 
 pub returns-in-NoFile : goal.returns-in-NoFile
@@ -27,6 +27,13 @@ returns-in-Duplicate c = made_text c.format-in-Duplicate.result c.with_memory-in
     (λ s. IsRefusalLine (refusal_of c.args.refusal.now) (string_bytes s))
     c.with_memory-in-Duplicate.ensures c.format-in-Duplicate.ensures.ok
     (λ s e. duplicate_text _ c.text-in-Duplicate.result.now _ (ap refusal_of c.in-Duplicate.is ∙ ap duplicate (sym c.text-in-Duplicate.ensures.value)) e)
+
+pub returns-in-Unknown : goal.returns-in-Unknown
+returns-in-Unknown c = made_text c.format-in-Unknown.result c.with_memory-in-Unknown.result
+    (λ s. string_bytes s ≡ codes "Error: unknown name " ++ (c.text-in-Unknown.result.now ++ codes ".\n"))
+    (λ s. IsRefusalLine (refusal_of c.args.refusal.now) (string_bytes s))
+    c.with_memory-in-Unknown.ensures c.format-in-Unknown.ensures.ok
+    (λ s e. unknown_text _ c.text-in-Unknown.result.now _ (ap refusal_of c.in-Unknown.is ∙ ap unknown (sym c.text-in-Unknown.ensures.value)) e)
 
 pub returns-in_ok-id-in-Spent : goal.returns-in_ok-id-in-Spent
 returns-in_ok-id-in-Spent c = made_text c.format-in-Spent.result c.with_memory-in-Spent.result

@@ -8,27 +8,24 @@ use Rattle.cic_env.specs.Declarations.{item}
 use Rattle.cic_env.specs.Environments.{items}
 use Rattle.cic_rules.specs.Environment.{Environment}
 use Rattle.cic_terms.specs.Denotes.{tree}
-use Rattle.cic_top.specs.Texts.{Prints}
+use Rattle.gal_print.specs.Printing.{Prints}
 use Rattle.cic_top.specs.Lines.{lines_of}
-use Rattle.cic_top.proofs.Printed.{SortedSoFar, sorted_at_end, sorted_more, first_left, first_has_text, made_from, on_no_fault}
+use Rattle.cic_top.proofs.Printed.{SortedSoFar, sorted_at_end, sorted_more, first_left, first_has_text, on_no_fault}
 use Rattle.cic_top.proofs.printing.sorted_axioms.Goals as goal
 
 pub returns : goal.returns
 returns c = sorted_at_end (items c.args.env.now) (map item (drop c.loop-decl.decl-index c.decls-decl-items.result.now)) (lines_of c.loop-decl.sorted.entries)
     (ap (map item) (drop_of_length-le c.decls-decl-items.result.now c.loop-decl-test.false)) c.loop-decl.invariant
 
-pub term_text-requires : goal.term_text-requires
-term_text-requires c = first_has_text (items c.args.env.now) (map item (drop (c.loop-decl.decl-index + 1) c.decls-decl-items.result.now)) (lines_of c.loop-decl.sorted.entries)
+pub printed_term-requires : goal.printed_term-requires
+printed_term-requires c = first_has_text (items c.args.env.now) (map item (drop (c.loop-decl.decl-index + 1) c.decls-decl-items.result.now)) (lines_of c.loop-decl.sorted.entries)
     c.axiom_parts.result.0.now (tree c.axiom_parts.result.1.now)
     (first_left _ _ c.decls-decl-items.result.now c.loop-decl.decl-index c.decl-item.result _ _ c.loop-decl-test.true c.decl-item.is c.axiom_parts.ensures c.loop-decl.invariant)
 
 pub loop-decl-preserved : goal.loop-decl-preserved
 loop-decl-preserved c =
     let left : Environment = map item (drop (c.loop-decl.decl-index + 1) c.decls-decl-items.result.now) in
-    let made : string_bytes c.in_ok-ty.ty ≡ c.term_text.result.now =
-    made_from c.from_str.result c.in_ok-ty.ty (λ t. string_bytes t ≡ c.term_text.result.now) c.in_ok-ty.ensures c.from_str.ensures.ok in
-    let printed : Prints (tree c.axiom_parts.result.1.now) (string_bytes c.in_ok-ty.ty) =
-    subst (Prints (tree c.axiom_parts.result.1.now)) (sym made) c.term_text.ensures in
+    let printed : Prints 0 (tree c.axiom_parts.result.1.now) (string_bytes c.in_ok-ty.ty) = c.in_ok-ty.ensures in
     let put : c.insert.new.self.entries ≡ insert_entry string_cmp c.loop-decl.sorted.entries c.in_ok-id.id c.in_ok-ty.ty =
     on_no_fault c.insert.result _ c.if-is_err.ensures.value c.insert.ensures.entries in
     subst (λ (entries : List (String Global × String Global)). SortedSoFar (items c.args.env.now) left (lines_of entries)) (sym put)

@@ -1,5 +1,5 @@
 use Rattle.std.proofs.Common.{refl, inl, inr}
-use Rattle.cic_top.proofs.Promises.{said-stated, said-says, said-words_only, said-words_where, said-refused_only, said-refused_where, said-passed_where, said-passed_only, said-no_read_fault, said-no_sink_fault, said-no_fault, read-no_word, sink-no_word, memory-no_word, read-no_refusal, sink-no_refusal, memory-no_refusal, read-no_pass, sink-no_pass, memory-no_pass, read-no_sink, sink-no_read, memory-no_read, memory-no_sink, sink-sent, or-read, or-sink, or-memory}
+use Rattle.cic_top.proofs.Promises.{said-stated, said-says, said-words_only, said-words_where, said-refused_only, said-refused_where, said-passed_where, said-passed_only, said-formed, said-no_read_fault, said-no_sink_fault, said-no_fault, read-no_word, sink-no_word, memory-no_word, read-no_refusal, sink-no_refusal, memory-no_refusal, read-no_pass, sink-no_pass, memory-no_pass, read-no_sink, sink-no_read, memory-no_read, memory-no_sink, sink-sent, or-read, or-sink, or-memory}
 use Rattle.cic_top.proofs.running.run.Goals as goal
 
 pub returns-in-Ok-write-clause-stated : goal.returns-in-Ok-write-clause-stated
@@ -172,3 +172,15 @@ returns-in-Err-Failed-clause-passed_only g c = λ fs _ e. read-no_pass e
 
 pub returns-in-Err-NoMemory-clause-passed_only : goal.returns-in-Err-NoMemory-clause-passed_only
 returns-in-Err-NoMemory-clause-passed_only g c = λ fs _ e. memory-no_pass e
+
+pub returns-in-Ok-write-clause-formed : goal.returns-in-Ok-write-clause-formed
+returns-in-Ok-write-clause-formed g c = said-formed c.in-Ok.ensures.says _ _ (rw c.as_bytes.ensures.value at c.in-Ok-write.ensures.sent)
+
+pub returns-in-Err-Failed-write-clause-formed : goal.returns-in-Err-Failed-write-clause-formed
+returns-in-Err-Failed-write-clause-formed g c = sink-no_pass
+
+pub returns-in-Err-Failed-clause-formed : goal.returns-in-Err-Failed-clause-formed
+returns-in-Err-Failed-clause-formed g c = read-no_pass
+
+pub returns-in-Err-NoMemory-clause-formed : goal.returns-in-Err-NoMemory-clause-formed
+returns-in-Err-NoMemory-clause-formed g c = memory-no_pass
