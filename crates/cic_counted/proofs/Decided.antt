@@ -3,13 +3,13 @@
 use Rattle.std.proofs.Common.{◌≡◌, ℕ, Bool, true, false, ◌&&◌, ◌↔◌, nat_eq, List, [], ◌∷◌, refl, ap, ap₂, ◌∙◌, arith, subst, eq-eqb}
 use Rattle.std.proofs.lemmas.Bool.{eqb-true}
 use Rattle.cic_terms.specs.Tree.{TreeSort, prop, set, typ, own, Shape, Former, SortF, ProdF, LamF, AppF, LetF, ConstF, IndF, CtorF, CaseF, FixF, Binders, none, one, many, more, Tree, rel, node, Children, no_child, child}
-use Rattle.cic_terms.specs.declared.name.GlobalId.{GlobalId}
-use Rattle.cic_terms.specs.declared.level.Part.{Part}
-use Rattle.cic_terms.specs.declared.level.Part.TheVariants.{Declared, Visible, Proof}
-use Rattle.cic_terms.specs.declared.level.LevelName.{LevelName}
-use Rattle.cic_terms.specs.declared.level.Level.{Level}
-use Rattle.cic_terms.specs.declared.level.Level.TheVariants.{Set, Named}
-use Rattle.cic_terms.specs.declared.level.Atom.{Atom}
+use Rattle.cic_names.specs.declared.name.GlobalId.{GlobalId}
+use Rattle.cic_names.specs.declared.level.Part.{Part}
+use Rattle.cic_names.specs.declared.level.Part.TheVariants.{Declared, Visible, Proof}
+use Rattle.cic_names.specs.declared.level.LevelName.{LevelName}
+use Rattle.cic_names.specs.declared.level.Level.{Level}
+use Rattle.cic_names.specs.declared.level.Level.TheVariants.{Set, Named}
+use Rattle.cic_names.specs.declared.level.Atom.{Atom}
 use Rattle.cic_rules.specs.Sameness.{same_list, same_id, same_part, same_level_name, same_level, same_bool, same_atom, same_sort, same_shapes, same_former, same_binders, same_tree, same_children}
 
 pub false_is_not_true : {X : Type 0} → false ≡ true → X

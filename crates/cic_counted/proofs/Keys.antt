@@ -3,10 +3,10 @@
 use Rattle.std.proofs.Common.{◌≡◌, ℕ, Bool, true, false, if◌then◌else◌, nat_lt, List, [], ◌∷◌, ◌++◌, length, refl, sym, ap, ap₂, ◌∙◌, arith, subst}
 use Rattle.std.proofs.lemmas.List.{append-nil, append_assoc}
 use Rattle.std.proofs.lemmas.Bool.{ltb-false}
-use Rattle.cic_terms.specs.declared.level.Part.{Part}
-use Rattle.cic_terms.specs.declared.level.Part.TheVariants.{Declared, Visible, Proof}
-use Rattle.cic_terms.specs.declared.level.Level.{Level}
-use Rattle.cic_terms.specs.declared.level.Level.TheVariants.{Set, Named}
+use Rattle.cic_names.specs.declared.level.Part.{Part}
+use Rattle.cic_names.specs.declared.level.Part.TheVariants.{Declared, Visible, Proof}
+use Rattle.cic_names.specs.declared.level.Level.{Level}
+use Rattle.cic_names.specs.declared.level.Level.TheVariants.{Set, Named}
 use Rattle.cic_rules.specs.Constraints.{Constraint, name_key, part_key, level_key, strict_key, constraint_key, Comparison, below, equal, above, compare_keys, insert_by, insert}
 use Rattle.cic_rules.specs.Numbering.{Numbering, Meets, MeetsAll}
 use Rattle.cic_counted.proofs.Decided.{make_level}

@@ -3,9 +3,9 @@
 -- arrow, a step of an opaque constant. It shows that the rules refuse what they should, so that they are not void.
 use Rattle.std.proofs.Common.{◌≡◌, ℕ, zero, suc, ◌≤◌, true, false, Option, Some, None, List, [], ◌∷◌, ◌++◌, length, if◌then◌else◌, refl, sym, ap, ◌∙◌, arith, subst, inl, inr, lit<, lit≤, codes}
 use Rattle.cic_terms.specs.Tree.{TreeSort, prop, set, Former, Binders, none, one, over, Tree, rel, node, Children, no_child, child, sort, prod, app, const, ind, ctor}
-use Rattle.cic_terms.specs.declared.name.GlobalId.{GlobalId}
-use Rattle.cic_terms.specs.declared.level.LevelName.{LevelName}
-use Rattle.cic_terms.specs.declared.level.Level.TheVariants as Level
+use Rattle.cic_names.specs.declared.name.GlobalId.{GlobalId}
+use Rattle.cic_names.specs.declared.level.LevelName.{LevelName}
+use Rattle.cic_names.specs.declared.level.Level.TheVariants as Level
 use Rattle.cic_rules.specs.Sameness.{same_level_name}
 use Rattle.cic_rules.specs.Numbering.{Numbering, IsNumbering, level_number, sort_number}
 use Rattle.cic_rules.specs.Environment.{Environment, Context, TypeDeclaration, ConstructorDeclaration, opaque, declared, under_unknown, transparent_body, element}

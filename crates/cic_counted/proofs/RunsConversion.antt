@@ -2,8 +2,8 @@
 -- By one induction on the relations, over that of evaluation; typing needs it.
 use Rattle.std.proofs.Common.{◌≡◌, ◌≢◌, ℕ, zero, suc, ◌+◌, ◌-◌, ◌≤◌, max, true, false, ◌&&◌, nat_eq, if◌then◌else◌, List, [], ◌∷◌, length, refl, sym, ap, ◌∙◌, arith, subst}
 use Rattle.cic_terms.specs.Tree.{TreeSort, prop, set, typ, Former, SortF, LetF, CaseF, FixF, over, Tree, rel, node, Children, no_child, child, sort, prod}
-use Rattle.cic_terms.specs.declared.level.Level.{Level}
-use Rattle.cic_terms.specs.declared.level.Atom.{Atom}
+use Rattle.cic_names.specs.declared.level.Level.{Level}
+use Rattle.cic_names.specs.declared.level.Atom.{Atom}
 use Rattle.cic_rules.specs.Sameness.{same_id, same_sort, same_shapes, same_former}
 use Rattle.cic_rules.specs.Constraints.{Constraint, insert}
 use Rattle.cic_rules.specs.Environment.{Environment, Context, unknown, under_unknown}

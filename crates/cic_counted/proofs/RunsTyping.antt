@@ -5,7 +5,7 @@ use Rattle.std.specs.Prelude.{option_map}
 use Rattle.std.proofs.lemmas.List.{append_assoc}
 use Rattle.cic_terms.specs.Tree.{TreeSort, Shape, Tree, Children, child, sort, prod, lam, let_in, app, ind, case, fix}
 use Rattle.cic_terms.specs.Lift.{lift_tree, subst_tree}
-use Rattle.cic_terms.specs.declared.name.GlobalId.{GlobalId}
+use Rattle.cic_names.specs.declared.name.GlobalId.{GlobalId}
 use Rattle.cic_rules.specs.Sameness.{same_tree}
 use Rattle.cic_rules.specs.Constraints.{Constraint}
 use Rattle.cic_rules.specs.Numbering.{plain_level}

@@ -2,7 +2,7 @@
 use Rattle.std.specs.Prelude.{ℕ, ◌+◌, ◌-◌, Bool, true, false, not, ◌&&◌, ◌||◌, nat_eq, nat_le, if◌then◌else◌, Option, Some, None, is_none, option_map, List, [], ◌∷◌, length, take, drop}
 use Rattle.std.specs.List.{list_any}
 use Rattle.cic_terms.specs.Tree.{TreeSort, prop, set, typ, own, Former, ConstF, IndF, CtorF, CaseF, Tree, rel, node, Children, no_child, child, sort, prod, ind}
-use Rattle.cic_terms.specs.declared.name.GlobalId.{GlobalId}
+use Rattle.cic_names.specs.declared.name.GlobalId.{GlobalId}
 use Rattle.cic_rules.specs.Sameness.{same_list, same_tree}
 use Rattle.cic_rules.specs.Environment.{Block, TypeDeclaration, ConstructorDeclaration, bare_ids, or_else}
 use Rattle.cic_rules.specs.Telescopes.{is_among, is_type_among, head_of, arguments_of, domains_of, conclusion_of, variables, lift_all}

@@ -2,7 +2,7 @@
 -- conditions under which an environment may be extended; how they are counted is this project's own).
 use Rattle.std.specs.Prelude.{ℕ, ◌-◌, if◌then◌else◌, Option, Some, None, option_map, option_and_then, List, [], ◌∷◌, ◌++◌, take, drop}
 use Rattle.cic_terms.specs.Tree.{TreeSort, Tree, sort}
-use Rattle.cic_terms.specs.declared.name.GlobalId.{GlobalId}
+use Rattle.cic_names.specs.declared.name.GlobalId.{GlobalId}
 use Rattle.cic_rules.specs.Constraints.{Constraint}
 use Rattle.cic_rules.specs.Environment.{Environment, Context, Declaration, axiom_of, transparent, opaque, inductive, Block, TypeDeclaration, ConstructorDeclaration, bare, assumed, element}
 use Rattle.cic_rules.specs.Telescopes.{domains_of, conclusion_of, extend}

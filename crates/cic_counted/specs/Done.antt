@@ -4,9 +4,9 @@
 use Rattle.std.specs.Prelude.{ℕ, ◌-◌, ◌+◌, ◌≡◌, ◌≢◌, ◌≤◌, max, true, false, nat_eq, Some, None, List, [], ◌∷◌, ◌++◌, length}
 use Rattle.cic_terms.specs.Tree.{TreeSort, prop, set, typ, Shape, Former, CaseF, FixF, LetF, over, Tree, rel, node, Children, no_child, child, sort, prod, lam, let_in, app, const, case}
 use Rattle.cic_terms.specs.Lift.{lift_tree, subst_tree}
-use Rattle.cic_terms.specs.declared.name.GlobalId.{GlobalId}
-use Rattle.cic_terms.specs.declared.level.Level.{Level}
-use Rattle.cic_terms.specs.declared.level.Atom.{Atom}
+use Rattle.cic_names.specs.declared.name.GlobalId.{GlobalId}
+use Rattle.cic_names.specs.declared.level.Level.{Level}
+use Rattle.cic_names.specs.declared.level.Atom.{Atom}
 use Rattle.cic_rules.specs.Sameness.{same_id, same_atoms, same_sort, same_shapes, same_former, same_tree}
 use Rattle.cic_rules.specs.Constraints.{Constraint, insert}
 use Rattle.cic_rules.specs.Numbering.{plain_level}

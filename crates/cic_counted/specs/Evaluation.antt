@@ -5,9 +5,9 @@
 use Rattle.std.specs.Prelude.{ℕ, zero, suc, ◌+◌, ◌-◌, Bool, true, false, ◌&&◌, nat_eq, if◌then◌else◌, Option, Some, None, option_and_then, List, [], ◌∷◌, length, drop}
 use Rattle.cic_terms.specs.Tree.{TreeSort, prop, set, typ, Former, LetF, CaseF, FixF, over, Tree, rel, node, Children, no_child, child, sort, prod, lam, let_in, app, const, ctor, case, fix}
 use Rattle.cic_terms.specs.Lift.{lift_tree, subst_tree}
-use Rattle.cic_terms.specs.declared.name.GlobalId.{GlobalId}
-use Rattle.cic_terms.specs.declared.level.Level.{Level}
-use Rattle.cic_terms.specs.declared.level.Atom.{Atom}
+use Rattle.cic_names.specs.declared.name.GlobalId.{GlobalId}
+use Rattle.cic_names.specs.declared.level.Level.{Level}
+use Rattle.cic_names.specs.declared.level.Atom.{Atom}
 use Rattle.cic_rules.specs.Sameness.{same_id, same_atoms, same_sort, same_shapes, same_former, same_binders, same_tree}
 use Rattle.cic_rules.specs.Environment.{Environment, Context, Constructor, transparent_body, constructor_of, body_at, element, unknown, under_unknown}
 use Rattle.cic_rules.specs.Numbering.{plain_level}

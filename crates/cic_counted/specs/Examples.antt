@@ -1,10 +1,10 @@
 -- Worked examples: declarations of a library A, and the functions of Fixes.
 use Rattle.std.specs.Prelude.{ℕ, Bool, true, false, Some, List, [], ◌∷◌, codes}
 use Rattle.cic_terms.specs.Tree.{prop, set, typ, many, Tree, rel, no_child, child, sort, prod, lam, app, const, ind, ctor, case}
-use Rattle.cic_terms.specs.declared.name.GlobalId.{GlobalId}
-use Rattle.cic_terms.specs.declared.level.Part.TheVariants.{Declared, Visible}
-use Rattle.cic_terms.specs.declared.level.Level.{Level}
-use Rattle.cic_terms.specs.declared.level.Level.TheVariants.{Named}
+use Rattle.cic_names.specs.declared.name.GlobalId.{GlobalId}
+use Rattle.cic_names.specs.declared.level.Part.TheVariants.{Declared, Visible}
+use Rattle.cic_names.specs.declared.level.Level.{Level}
+use Rattle.cic_names.specs.declared.level.Level.TheVariants.{Named}
 use Rattle.cic_rules.specs.Constraints.{Constraint}
 use Rattle.cic_rules.specs.Environment.{Environment, Declaration, axiom_of, transparent, opaque, inductive, Block, TypeDeclaration, ConstructorDeclaration, declared}
 use Rattle.cic_rules.specs.Telescopes.{apply, Function, fixpoint}

@@ -1,7 +1,7 @@
 -- The test of the guard of a Fix, with the first occurrence at fault.
 use Rattle.std.specs.Prelude.{ℕ, ◌+◌, Bool, true, false, ◌&&◌, ◌||◌, nat_eq, if◌then◌else◌, Option, Some, None, option_map, List, [], ◌∷◌, ◌++◌, length, replicate}
 use Rattle.cic_terms.specs.Tree.{Shape, over, Tree, rel, node, Children, no_child, child, lam, app, ind, case, fix}
-use Rattle.cic_terms.specs.declared.name.GlobalId.{GlobalId}
+use Rattle.cic_names.specs.declared.name.GlobalId.{GlobalId}
 use Rattle.cic_rules.specs.Environment.{Environment, element, or_else}
 use Rattle.cic_rules.specs.Telescopes.{head_of, Function}
 use Rattle.cic_rules.specs.Guard.{Mark, plain, main, smaller, function, Marks, under_mark, under_marks, under_plain, recursive_marks, body_marks, recursive_places}

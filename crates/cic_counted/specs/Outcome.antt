@@ -3,7 +3,7 @@
 use Rattle.std.specs.Prelude.{true, false, Option, Some, None, ℕ, zero, suc, Bool, if◌then◌else◌, nat_le, ◌&&◌, List, [], ◌∷◌}
 use Rattle.cic_terms.specs.Tree.{TreeSort, Tree}
 use Rattle.cic_terms.specs.Sizes.{depth_tree, max_rel}
-use Rattle.cic_terms.specs.declared.name.GlobalId.{GlobalId}
+use Rattle.cic_names.specs.declared.name.GlobalId.{GlobalId}
 use Rattle.cic_rules.specs.Constraints.{Constraint, insert}
 
 -- What is missing: a declaration, or variable `k` of the context.

@@ -2,7 +2,7 @@
 
 ghost use Rattle.std.specs.Prelude.{◌≡◌, ℕ, [], ◌∷◌, true, None, Some, codes};
 ghost use Rattle.cic_terms.specs.Tree.{set, typ, const, ctor, ind, sort};
-ghost use Rattle.cic_terms.specs.declared.level.Level.TheVariants as Level;
+ghost use Rattle.cic_names.specs.declared.level.Level.TheVariants as Level;
 ghost use Rattle.cic_rules.specs.Environment.{inductive};
 ghost use Rattle.cic_counted.specs.Outcome.{stops, spent, unguarded, not_positive, bad_elimination, mismatch};
 ghost use Rattle.cic_counted.specs.GuardTest.{guard_fault};

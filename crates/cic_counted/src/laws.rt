@@ -1,8 +1,8 @@
 ghost use Rattle.std.specs.Prelude.{◌≡◌, ◌≤◌, ◌↔◌, ◌≢◌, ℕ, [], ◌∷◌, true, List, length, Option, Some};
 ghost use Rattle.cic_terms.specs.Tree.{TreeSort, prop, set, typ, Tree, sort, prod, const};
-ghost use Rattle.cic_terms.specs.declared.name.GlobalId.{GlobalId};
-ghost use Rattle.cic_terms.specs.declared.level.LevelName.{LevelName};
-ghost use Rattle.cic_terms.specs.declared.level.Level.TheVariants as Level;
+ghost use Rattle.cic_names.specs.declared.name.GlobalId.{GlobalId};
+ghost use Rattle.cic_names.specs.declared.level.LevelName.{LevelName};
+ghost use Rattle.cic_names.specs.declared.level.Level.TheVariants as Level;
 ghost use Rattle.cic_rules.specs.Sameness.{same_tree};
 ghost use Rattle.cic_rules.specs.Numbering.{Numbering, IsNumbering, Meets, MeetsAll, sort_number};
 ghost use Rattle.cic_rules.specs.Environment.{Environment, Context, TypeDeclaration, ConstructorDeclaration, opaque, declared};

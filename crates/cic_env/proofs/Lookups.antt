@@ -6,7 +6,7 @@ use Rattle.std.specs.Cmp.Lexicographic.{pointwise, bytes_decides}
 use Rattle.std.specs.Cmp.{first_so, second_so}
 use Rattle.std.proofs.lemmas.List.Elements.{Contains-append_cases}
 use Rattle.cic_terms.specs.Denotes.{tree}
-use Rattle.cic_terms.specs.declared.name.GlobalId.{GlobalId}
+use Rattle.cic_names.specs.declared.name.GlobalId.{GlobalId}
 use Rattle.cic_rules.specs.Sameness.{same_id, same_list}
 use Rattle.cic_rules.specs.Environment.{meaning, constant, or_else, environment_ids, declared_ids}
 use Rattle.cic_env.specs.Declarations.{declaration, decl_id, decl_meaning, environment}

@@ -1,7 +1,7 @@
 -- What a declaration of the program stands for.
 use Rattle.std.specs.Prelude.{List, map, None}
 use Rattle.cic_terms.specs.Denotes.{tree}
-use Rattle.cic_terms.specs.declared.name.GlobalId.{GlobalId}
+use Rattle.cic_names.specs.declared.name.GlobalId.{GlobalId}
 use Rattle.cic_rules.specs.Environment.{Declaration, axiom_of, Item, declared, Environment, Meaning, constant}
 use Rattle.cic_env.specs.declared.declaration.Decl.{Decl}
 use Rattle.cic_env.specs.declared.declaration.Decl.TheVariants.{Axiom}

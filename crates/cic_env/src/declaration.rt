@@ -2,7 +2,8 @@ ghost use Rattle.std.specs.Prelude.{◌≡◌, ◌∷◌, []};
 ghost use Rattle.cic_rules.specs.Environment.{declared_ids};
 ghost use Rattle.cic_env.specs.Declarations.{declaration};
 
-use cic_terms::{GlobalId, Term};
+use cic_names::GlobalId;
+use cic_terms::Term;
 
 /// A declaration. Manual: "Typing rules", the global environment.
 #[derive(Drop)]

@@ -1,10 +1,10 @@
 ghost use Rattle.std.specs.Prelude.{◌≡◌};
 ghost use Rattle.std.specs.HashMap.{get};
 ghost use Rattle.cic_env.specs.Places.{place_of};
-ghost use Rattle.cic_terms.specs.declared.name.GlobalId.{GlobalId};
+ghost use Rattle.cic_names.specs.declared.name.GlobalId.{GlobalId};
 
 use crate::declaration::Decl;
-use cic_terms::GlobalId;
+use cic_names::GlobalId;
 use std::alloc::Global;
 use std::collections::HashMap;
 

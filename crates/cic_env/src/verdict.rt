@@ -1,4 +1,5 @@
-use cic_terms::{Constraints, GlobalId, Sort, Term};
+use cic_names::{Constraints, GlobalId, Sort};
+use cic_terms::Term;
 
 /// What is missing from the environment or the context.
 #[derive(Drop)]

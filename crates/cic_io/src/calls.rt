@@ -1,6 +1,6 @@
 ghost use Rattle.std.specs.Prelude.{◌≡◌, ◌++◌, ◌∷◌, [], IsTrue, ◌↔◌, Contains, OnOk, OnErr};
 
-use cic_terms::NoMemory;
+use cic_names::NoMemory;
 use std::alloc::Global;
 use std::marker::Model;
 

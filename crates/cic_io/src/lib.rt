@@ -17,7 +17,7 @@ mod sink;
 mod whole;
 
 pub use calls::Calls;
-pub use cic_terms::NoMemory;
+pub use cic_names::NoMemory;
 pub use file_name::{FileName, FileNameFault};
 pub use folder::{Folder, FolderFault};
 pub use host_folder::HostFolder;

@@ -3,7 +3,7 @@ ghost use Rattle.std.specs.Option.{option_copied};
 ghost use Rattle.cic_io.specs.Files.{file_at};
 
 use crate::file_name::FileName;
-use cic_terms::NoMemory;
+use cic_names::NoMemory;
 use std::alloc::Global;
 use std::marker::Model;
 

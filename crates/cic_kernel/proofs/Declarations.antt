@@ -2,7 +2,7 @@
 -- It ties the answer of the code's one call to that of the check, and gives the laws on constraints and sorts.
 use Rattle.std.proofs.Common.{◌≡◌, ℕ, ◌-◌, Option, Some, None, [], refl, sym, ap, ◌∙◌, subst, arith}
 use Rattle.cic_terms.specs.Tree.{TreeSort, Tree}
-use Rattle.cic_terms.specs.declared.name.GlobalId.{GlobalId}
+use Rattle.cic_names.specs.declared.name.GlobalId.{GlobalId}
 use Rattle.cic_rules.specs.Environment.{Environment, Declaration, axiom_of}
 use Rattle.cic_counted.specs.Outcome.{Budget, Outcome, done, stops, follow, Stopped}
 use Rattle.cic_counted.specs.Inference.{calls_from}

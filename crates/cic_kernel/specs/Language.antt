@@ -1,7 +1,7 @@
 -- The language of axioms: the types of its axioms are built of Prop, variables, constants and products.
 use Rattle.std.specs.Prelude.{◌≡◌, ◌⊎◌, List, [], ◌∷◌}
 use Rattle.cic_terms.specs.Tree.{TreeSort, prop, Tree, rel, sort, prod, const}
-use Rattle.cic_terms.specs.declared.level.Level.TheVariants.{Set}
+use Rattle.cic_names.specs.declared.level.Level.TheVariants.{Set}
 use Rattle.cic_rules.specs.Environment.{Declaration, axiom_of, Item, declared, Environment}
 use Rattle.cic_counted.specs.Outcome.{Cause, unbound, not_sort}
 use Rattle.cic_counted.specs.Inference.{next_level}

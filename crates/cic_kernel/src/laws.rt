@@ -2,7 +2,7 @@
 
 ghost use Rattle.std.specs.Prelude.{◌≡◌, ℕ, [], ◌∷◌, ◌++◌};
 ghost use Rattle.cic_terms.specs.Tree.{TreeSort, Tree};
-ghost use Rattle.cic_terms.specs.declared.name.GlobalId.{GlobalId};
+ghost use Rattle.cic_names.specs.declared.name.GlobalId.{GlobalId};
 ghost use Rattle.cic_rules.specs.Environment.{Environment, Declaration, axiom_of, declared, environment_ids};
 ghost use Rattle.cic_rules.specs.Formed.{Distinct, Formed};
 ghost use Rattle.cic_rules.specs.Numbering.{Numbering};

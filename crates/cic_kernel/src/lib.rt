@@ -22,7 +22,8 @@ mod universe;
 
 use crate::state::Check;
 use cic_env::{Decl, Env, Found, Verdict};
-use cic_terms::{Constraints, Term};
+use cic_names::Constraints;
+use cic_terms::Term;
 use std::alloc::Global;
 
 /// The type that a declaration gives its id.

@@ -14,7 +14,8 @@ ghost use Rattle.cic_kernel.specs.State.{IsReady, Stays, inference_in, environme
 use crate::stopping::Stop;
 use crate::universe::{Universe, universe_of};
 use cic_env::{Decl, Entry, Env};
-use cic_terms::{GlobalId, Term, TermFault, copy, lift_shared};
+use cic_names::GlobalId;
+use cic_terms::{Term, TermFault, copy, lift_shared};
 use std::alloc::Global;
 use std::rc::Rc;
 

@@ -6,7 +6,8 @@ ghost use Rattle.cic_counted.specs.Outcome.{refused, not_sort};
 ghost use Rattle.cic_kernel.specs.Counting.{Rejects};
 
 use cic_env::{Cause, Found, Missing, Verdict};
-use cic_terms::{GlobalId, NoMemory, Term, TermFault, copy};
+use cic_names::{GlobalId, NoMemory};
+use cic_terms::{Term, TermFault, copy};
 use std::alloc::{AllocError, AllocFailed};
 use std::rc::Rc;
 

@@ -8,7 +8,8 @@ ghost use Rattle.cic_kernel.specs.Language.{TermOfLanguage, IsOfLanguage, Enviro
 
 use crate::check_decl;
 use cic_env::{Cause, Decl, Env, Found, Missing, Verdict};
-use cic_terms::{GlobalId, Name, NoMemory, Sort, Term, copy};
+use cic_names::{GlobalId, Name, NoMemory, Sort};
+use cic_terms::{Term, copy};
 use std::alloc::Global;
 use std::rc::Rc;
 

@@ -8,7 +8,8 @@ ghost use Rattle.cic_kernel.specs.Counting.{universe_sort};
 ghost use Rattle.cic_kernel.specs.Language.{TypeOfLanguage, above_set};
 
 use crate::stopping::Stop;
-use cic_terms::{Atom, Expr, Level, Sort, Term};
+use cic_names::{Atom, Expr, Level, Sort};
+use cic_terms::Term;
 use std::alloc::Global;
 use std::rc::Rc;
 

@@ -4,7 +4,7 @@
 use Rattle.std.proofs.Common.{◌≡◌, ◌⊎◌, inl, inr, ℕ, ◌+◌, Option, Some, None, List, [], ◌∷◌, ◌++◌, length, refl, sym, ◌∙◌, subst, Contains}
 use Rattle.cic_terms.specs.Tree.{Tree, Children, app, ind}
 use Rattle.cic_terms.specs.Mentions.{Mentions, ChildrenMention}
-use Rattle.cic_terms.specs.declared.name.GlobalId.{GlobalId}
+use Rattle.cic_names.specs.declared.name.GlobalId.{GlobalId}
 use Rattle.cic_terms.proofs.Mentioned.{split}
 use Rattle.cic_rules.specs.Numbering.{Numbering}
 use Rattle.cic_rules.specs.Environment.{Environment, Context, ConstructorDeclaration, environment_ids, Meaning, meaning, constant_type_in, arity_in, whole_block_in, constructor_in}

@@ -4,7 +4,7 @@
 use Rattle.std.proofs.Common.{◌≡◌, ℕ, Bool, true, false, if◌then◌else◌, Option, Some, None, List, [], ◌∷◌, refl, ap, ◌∙◌, subst}
 use Rattle.std.specs.Prelude.{option_map}
 use Rattle.cic_terms.specs.Tree.{Tree}
-use Rattle.cic_terms.specs.declared.name.GlobalId.{GlobalId}
+use Rattle.cic_names.specs.declared.name.GlobalId.{GlobalId}
 use Rattle.cic_rules.specs.Inductive.{Each}
 use Rattle.cic_rules.specs.Environment.{ConstructorDeclaration, TypeDeclaration, Block, Meaning, constant, whole_type, bare_type, constructor, element, constant_type_in, transparent_body_in, arity_in_block, arity_in, whole_block_in, constructor_in_type, constructor_in_block, constructor_in}
 use Rattle.cic_counted.specs.Outcome.{Budget, Outcome, done, stops, Stopped, Cause, deep, refused, Counted, follow, ◌>>=◌, ◌>>◌, give, stop, or_refuse, is_small, fitting, fitting_all}

@@ -5,7 +5,7 @@ use Rattle.std.proofs.Common.{◌≡◌, ℕ, zero, suc, ◌+◌, Bool, true, fa
 use Rattle.std.specs.Prelude.{option_and_then}
 use Rattle.cic_terms.specs.Tree.{Former, LetF, CaseF, FixF, over, Tree, rel, node, Children, child, sort, prod, lam, let_in, app, const, ctor, case, fix}
 use Rattle.cic_terms.specs.Lift.{lift_tree, subst_tree}
-use Rattle.cic_terms.specs.declared.name.GlobalId.{GlobalId}
+use Rattle.cic_names.specs.declared.name.GlobalId.{GlobalId}
 use Rattle.cic_rules.specs.Sameness.{same_id, same_shapes, same_former, same_tree}
 use Rattle.cic_rules.specs.Environment.{Environment, Context, meaning, transparent_body, transparent_body_in, Constructor, constructor_of, constructor_in, element, body_at, unknown, under_unknown}
 use Rattle.cic_rules.specs.Telescopes.{apply, head_of, arguments_of, abstractions, substitute_all, lift_domains, BranchParts, branch_at, Function, functions_of, function_types, unfolded}

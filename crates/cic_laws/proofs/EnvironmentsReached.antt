@@ -5,7 +5,7 @@ use Rattle.std.proofs.Common.{◌≡◌, inl, inr, ℕ, Option, Some, None, List
 use Rattle.std.proofs.lemmas.List.Elements.{Contains-append_left, Contains-append_right}
 use Rattle.cic_terms.specs.Tree.{Former, ConstF, IndF, CtorF, CaseF, Tree, rel, node, Children, no_child, child}
 use Rattle.cic_terms.specs.Mentions.{Names, Mentions, ChildrenMention}
-use Rattle.cic_terms.specs.declared.name.GlobalId.{GlobalId}
+use Rattle.cic_names.specs.declared.name.GlobalId.{GlobalId}
 use Rattle.cic_rules.specs.Inductive.{Each}
 use Rattle.cic_rules.specs.Environment.{Environment, Declaration, axiom_of, transparent, opaque, inductive, TypeDeclaration, ConstructorDeclaration, Meaning, constant, whole_type, bare_type, constructor, meaning, constructor_ids, type_ids, environment_ids}
 use Rattle.cic_rules.specs.Formed.{block_terms, declaration_terms, Distinct}

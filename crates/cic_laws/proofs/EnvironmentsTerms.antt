@@ -2,7 +2,7 @@
 -- alone, so what keeps to the formers of its terms keeps to the set.
 use Rattle.std.proofs.Common.{ℕ, zero, suc, Option, Some, None, List, [], ◌∷◌}
 use Rattle.cic_terms.specs.Tree.{Former, ConstF, IndF, CtorF, CaseF, Tree, Children}
-use Rattle.cic_terms.specs.declared.name.GlobalId.{GlobalId}
+use Rattle.cic_names.specs.declared.name.GlobalId.{GlobalId}
 use Rattle.cic_rules.specs.Inductive.{Each}
 use Rattle.cic_rules.specs.Environment.{Context, Entry, assumed, element, entry_type, entry_body, type_at, body_at, under_unknown}
 use Rattle.cic_rules.specs.Telescopes.{extend, Function}

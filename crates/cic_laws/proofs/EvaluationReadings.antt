@@ -5,7 +5,7 @@ use Rattle.std.proofs.lemmas.Bool.{eqb-true}
 use Rattle.std.proofs.lemmas.List.{length-take, length-drop, length-append}
 use Rattle.std.proofs.Math.Seq.{drop-append-add}
 use Rattle.cic_terms.specs.Tree.{Shape, FixF, Tree, node, Children, app, ctor, fix}
-use Rattle.cic_terms.specs.declared.name.GlobalId.{GlobalId}
+use Rattle.cic_names.specs.declared.name.GlobalId.{GlobalId}
 use Rattle.cic_rules.specs.Sameness.{same_id, same_children}
 use Rattle.cic_rules.specs.Environment.{Environment, Constructor, constructor_of, element}
 use Rattle.cic_rules.specs.Telescopes.{apply, head_of, arguments_of, substitute_all, BranchParts, branch_at, Function, domain_parts, function_parts, function_shapes, fixpoint, trees_of, split_functions, functions_of, tree_at, unfolded}

@@ -3,8 +3,8 @@
 -- constructor compare sorts so.
 use Rattle.std.proofs.Common.{◌≡◌, ℕ, ◌+◌, ◌≤◌, max, Bool, true, false, if◌then◌else◌, Option, Some, None, List, [], ◌∷◌, ◌++◌, refl, sym, ap, ◌∙◌, arith, subst}
 use Rattle.cic_terms.specs.Tree.{TreeSort, typ, sort}
-use Rattle.cic_terms.specs.declared.level.Level.{Level}
-use Rattle.cic_terms.specs.declared.level.Atom.{Atom}
+use Rattle.cic_names.specs.declared.level.Level.{Level}
+use Rattle.cic_names.specs.declared.level.Atom.{Atom}
 use Rattle.cic_rules.specs.Sameness.{same_atoms}
 use Rattle.cic_rules.specs.Constraints.{Constraint, insert}
 use Rattle.cic_rules.specs.Numbering.{Numbering, level_number, atom_number, expression_number, plain_level, MeetsAt, MeetsAll}

@@ -4,7 +4,7 @@
 use Rattle.std.proofs.Common.{◌≡◌, ℕ, Some, ◌++◌, length, take, drop, true, refl, sym, ap, ap₂, ◌∙◌, subst}
 use Rattle.std.proofs.lemmas.List.{take-append-drop}
 use Rattle.cic_terms.specs.Tree.{Former, Binders, none, Tree, node, Children, child, app, ctor, case}
-use Rattle.cic_terms.specs.declared.name.GlobalId.{GlobalId}
+use Rattle.cic_names.specs.declared.name.GlobalId.{GlobalId}
 use Rattle.cic_rules.specs.Environment.{Environment, Context}
 use Rattle.cic_rules.specs.Telescopes.{apply, head_of, arguments_of, fixpoint}
 use Rattle.cic_rules.specs.Step.{Step, beta, zeta, delta_variable, delta_constant, iota_match, iota_fix, inside, here, there}

@@ -1,7 +1,7 @@
 -- Each lookup in an environment looks at what an id stands for, and the first item that declares an id says
 -- so. So declarations that come after the others change nothing that the rules could see before.
 use Rattle.std.proofs.Common.{◌≡◌, [], ◌∷◌, ◌++◌, Option, Some, None, refl, sym, ap, ◌∙◌, arith}
-use Rattle.cic_terms.specs.declared.name.GlobalId.{GlobalId}
+use Rattle.cic_names.specs.declared.name.GlobalId.{GlobalId}
 use Rattle.cic_rules.specs.Environment.{Environment, Meaning, or_else, item_meaning, meaning, constant_type_in, transparent_body_in, arity_in, whole_block_in, constructor_in}
 use Rattle.cic_laws.specs.Growth.{Grows}
 use Rattle.cic_laws.proofs.EvaluationReadings.{some_is_not_none}

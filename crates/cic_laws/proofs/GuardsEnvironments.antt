@@ -1,7 +1,7 @@
 -- An environment shows all blocks that a front of it shows, and one that ends in a whole block all that it
 -- shows where this block is taken bare. So a guarded Fix stays guarded there.
 use Rattle.std.proofs.Common.{◌≡◌, ℕ, ◌+◌, Bool, true, false, if◌then◌else◌, List, [], ◌∷◌, ◌++◌, Option, Some, None, refl}
-use Rattle.cic_terms.specs.declared.name.GlobalId.{GlobalId}
+use Rattle.cic_names.specs.declared.name.GlobalId.{GlobalId}
 use Rattle.cic_rules.specs.Sameness.{same_id}
 use Rattle.cic_rules.specs.Environment.{Environment, declared, bare, inductive, Block, TypeDeclaration, Meaning, bare_type, or_else, bare_meaning, item_meaning, meaning, TypeInBlock, whole_block_in}
 use Rattle.cic_rules.specs.Telescopes.{Function}

@@ -4,7 +4,7 @@
 use Rattle.std.proofs.Common.{◌≡◌, ℕ, zero, suc, ◌+◌, List, [], ◌∷◌, ◌++◌, length, length-append, map, Option, Some, refl, sym, ap, ap₂, ◌∙◌, arith}
 use Rattle.std.proofs.lemmas.List.{length-map, length-replicate}
 use Rattle.cic_terms.specs.Tree.{Tree, rel, ind}
-use Rattle.cic_terms.specs.declared.name.GlobalId.{GlobalId}
+use Rattle.cic_names.specs.declared.name.GlobalId.{GlobalId}
 use Rattle.cic_rules.specs.Environment.{Environment, element}
 use Rattle.cic_rules.specs.Telescopes.{apply, Function, fixpoint}
 use Rattle.cic_rules.specs.Guard.{Mark, plain, all_plain, under_marks, recursive_marks, function_marks, domain_marks, recursive_places, Fine, GuardedFunction, EachGuarded, Guarded}

@@ -3,7 +3,7 @@
 -- environment needs it.
 use Rattle.std.proofs.Common.{◌≡◌, ℕ, List, [], ◌∷◌, Option, Some, None, refl, ap₂, ◌∙◌}
 use Rattle.cic_terms.specs.Tree.{Tree, Children}
-use Rattle.cic_terms.specs.declared.name.GlobalId.{GlobalId}
+use Rattle.cic_names.specs.declared.name.GlobalId.{GlobalId}
 use Rattle.cic_rules.specs.Environment.{Environment, TypeInBlock, whole_block}
 use Rattle.cic_rules.specs.Telescopes.{Function}
 use Rattle.cic_rules.specs.Guard.{Mark, Marks, marks_in_block, recursive_marks, recursive_places, Smaller, smaller_variable, smaller_application, smaller_abstraction, smaller_match, smaller_match_on_smaller, Known, recursive_variable, known_smaller, SmallerParts, no_smaller_part, smaller_part, SmallerBranches, no_smaller_branch, smaller_branch, smaller_plain_branch, Fine, fine_variable, fine_call, fine_parts, fine_match_on_smaller, AllFine, none_fine, more_fine, FineParts, no_fine_part, fine_part, FineBranches, no_fine_branch, fine_branch, fine_plain_branch, GuardedFunction, EachGuarded, Guarded}

@@ -5,7 +5,7 @@ use Rattle.std.proofs.Common.{ℕ, zero, suc, ◌-◌, Bool, true, false, if◌t
 use Rattle.cic_terms.specs.Tree.{Tree, rel, node, Children, no_child, child, over, ind}
 use Rattle.cic_terms.specs.Lift.{lift_tree, subst_rel, subst_tree}
 use Rattle.cic_terms.specs.Mentions.{Mentions, ChildrenMention}
-use Rattle.cic_terms.specs.declared.name.GlobalId.{GlobalId}
+use Rattle.cic_names.specs.declared.name.GlobalId.{GlobalId}
 use Rattle.cic_rules.specs.Inductive.{Each, Absent, StrictlyPositive, absent, applied, in_codomain}
 use Rattle.cic_laws.specs.Substitution.{renaming_under, rename, rename_children, substitution_under_one, substitution_under, substitute, substitute_children, lifted_variable}
 use Rattle.cic_laws.proofs.Composition.{rename_as_substitute}

@@ -4,7 +4,7 @@
 use Rattle.std.proofs.Common.{◌≡◌, ◌≢◌, ℕ, ◌+◌, List, map, Option, sym, ap, ◌∙◌, arith}
 use Rattle.cic_terms.specs.Tree.{more, over, Tree, rel, Children}
 use Rattle.cic_terms.specs.Lift.{lift_tree, subst_rel, subst_tree}
-use Rattle.cic_terms.specs.declared.name.GlobalId.{GlobalId}
+use Rattle.cic_names.specs.declared.name.GlobalId.{GlobalId}
 use Rattle.cic_rules.specs.Telescopes.{apply}
 use Rattle.cic_rules.specs.Guard.{Mark, plain, function, Marks, under_mark, under_marks, under_plain, Smaller, smaller_variable, smaller_application, smaller_abstraction, smaller_match, smaller_match_on_smaller, Known, recursive_variable, known_smaller, SmallerParts, no_smaller_part, smaller_part, SmallerBranches, no_smaller_branch, smaller_branch, smaller_plain_branch, Fine, fine_variable, fine_call, fine_parts, fine_match_on_smaller, AllFine, none_fine, more_fine, FineParts, no_fine_part, fine_part, FineBranches, no_fine_branch, fine_branch, fine_plain_branch}
 use Rattle.cic_laws.specs.Substitution.{rename, substitution_under_one, substitution_under, substitute, substitute_children, lifted_variable}

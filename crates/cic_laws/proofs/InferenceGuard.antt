@@ -7,7 +7,7 @@ use Rattle.std.specs.Prelude.{option_map, replicate}
 use Rattle.std.proofs.lemmas.Bool.{eqb-true}
 use Rattle.std.proofs.lemmas.List.{length-append, length-replicate}
 use Rattle.cic_terms.specs.Tree.{Shape, Former, FixF, Binders, over, Tree, rel, node, Children, no_child, child, lam, app, ind, case, fix}
-use Rattle.cic_terms.specs.declared.name.GlobalId.{GlobalId}
+use Rattle.cic_names.specs.declared.name.GlobalId.{GlobalId}
 use Rattle.cic_rules.specs.Environment.{Environment, element}
 use Rattle.cic_rules.specs.Telescopes.{apply, head_of, arguments_of, trees_of, Function}
 use Rattle.cic_rules.specs.Inductive.{Each}

@@ -3,7 +3,7 @@
 -- asks.
 use Rattle.std.proofs.Common.{◌≡◌, ℕ, ◌+◌, Option, Some, None, List, [], ◌∷◌, ◌++◌, length, take, drop, map, refl, sym, arith, subst}
 use Rattle.cic_terms.specs.Tree.{TreeSort, prop, set, typ, own, Tree, Children, ind}
-use Rattle.cic_terms.specs.declared.name.GlobalId.{GlobalId}
+use Rattle.cic_names.specs.declared.name.GlobalId.{GlobalId}
 use Rattle.cic_rules.specs.Environment.{Environment, Context, Meaning, constant, whole_type, bare_type, constructor, meaning, Block, TypeDeclaration, ConstructorDeclaration, Arity, TypeInBlock, Constructor, constant_type_in, transparent_body_in, arity_in_block, arity_in, whole_block_in, whole_block, constructor_in_type, constructor_in_block, constructor_in, element, assumed}
 use Rattle.cic_rules.specs.Telescopes.{apply, head_of, arguments_of, domains_of, extend, variables, lift_all, instantiate, function_type, function_types}
 use Rattle.cic_rules.specs.Formed.{block_terms}

@@ -2,7 +2,7 @@
 -- shapes, so on the bodies of a Fix, which have types, it goes over all parts.
 use Rattle.std.proofs.Common.{◌≡◌, ℕ, suc, None, ◌+◌, List, [], ◌∷◌, ◌++◌, length, refl, ap, arith, subst}
 use Rattle.cic_terms.specs.Tree.{Shape, many, Tree, Children, no_child, child, app, ind, fix, join}
-use Rattle.cic_terms.specs.declared.name.GlobalId.{GlobalId}
+use Rattle.cic_names.specs.declared.name.GlobalId.{GlobalId}
 use Rattle.cic_rules.specs.Numbering.{Numbering}
 use Rattle.cic_rules.specs.Environment.{Environment, Context, ConstructorDeclaration}
 use Rattle.cic_rules.specs.Telescopes.{apply, products, abstractions, lift_domains, trees_of, Function, domain_parts, function_parts, function_shapes, function_types, full_bodies}

@@ -5,8 +5,8 @@
 use Rattle.std.proofs.Common.{◌≡◌, ℕ, ◌+◌, ◌≤◌, max, Bool, true, false, ◌||◌, if◌then◌else◌, Some, List, [], ◌∷◌, ◌++◌, refl, ap, ◌∙◌, arith}
 use Rattle.std.specs.List.{list_any}
 use Rattle.cic_terms.specs.Tree.{TreeSort, prop, set, typ, own, Tree, sort, prod}
-use Rattle.cic_terms.specs.declared.level.Level.{Level}
-use Rattle.cic_terms.specs.declared.level.Atom.{Atom}
+use Rattle.cic_names.specs.declared.level.Level.{Level}
+use Rattle.cic_names.specs.declared.level.Atom.{Atom}
 use Rattle.cic_rules.specs.Sameness.{same_atom}
 use Rattle.cic_rules.specs.Numbering.{Numbering, level_number, atom_number, expression_number, plain_level, sort_number}
 use Rattle.cic_rules.specs.Environment.{Environment, Context, assumed}

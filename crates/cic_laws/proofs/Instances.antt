@@ -5,7 +5,7 @@ use Rattle.std.proofs.Common.{◌≡◌, ℕ, zero, suc, ◌+◌, List, [], ◌�
 use Rattle.std.proofs.lemmas.Bool.Decides.{nat_tests}
 use Rattle.cic_terms.specs.Tree.{TreeSort, Tree, rel, sort, prod, app, ind, ctor}
 use Rattle.cic_terms.specs.Lift.{lift_tree, subst_tree}
-use Rattle.cic_terms.specs.declared.name.GlobalId.{GlobalId}
+use Rattle.cic_names.specs.declared.name.GlobalId.{GlobalId}
 use Rattle.cic_terms.proofs.LiftSubst.{lift_subst}
 use Rattle.cic_rules.specs.Numbering.{Numbering}
 use Rattle.cic_rules.specs.Environment.{Environment, Context, Arity, Constructor, arity_of, constructor_of, element, entry_type, entry_body, assumed}

@@ -5,7 +5,7 @@ use Rattle.std.proofs.Common.{Some, ◌≡◌, ℕ, zero, suc, ◌+◌, ◌<◌,
 use Rattle.std.proofs.lemmas.Bool.{cases_lt}
 use Rattle.cic_terms.specs.Tree.{TreeSort, Tree, rel, sort, ind}
 use Rattle.cic_terms.specs.Lift.{lift_tree, subst_tree}
-use Rattle.cic_terms.specs.declared.name.GlobalId.{GlobalId}
+use Rattle.cic_names.specs.declared.name.GlobalId.{GlobalId}
 use Rattle.cic_rules.specs.Numbering.{Numbering}
 use Rattle.cic_rules.specs.Environment.{Environment, Context, Arity, arity_of, assumed}
 use Rattle.cic_rules.specs.Telescopes.{apply, products, extend, substitute_all, variables, lift_all}

@@ -3,7 +3,7 @@
 -- left open here, since arities are checked over the environment and constructors over the block taken bare.
 use Rattle.std.proofs.Common.{◌≡◌, ℕ, Some, List, [], ◌∷◌, ◌++◌, length, take, drop, sym, ap, ap₂, ◌∙◌, subst}
 use Rattle.cic_terms.specs.Tree.{TreeSort, Tree, sort, ind}
-use Rattle.cic_terms.specs.declared.name.GlobalId.{GlobalId}
+use Rattle.cic_names.specs.declared.name.GlobalId.{GlobalId}
 use Rattle.cic_rules.specs.Numbering.{Numbering, MeetsAll}
 use Rattle.cic_rules.specs.Environment.{Environment, Context, TypeDeclaration, ConstructorDeclaration, assumed}
 use Rattle.cic_rules.specs.Telescopes.{apply, products, domains_of, conclusion_of, extend}

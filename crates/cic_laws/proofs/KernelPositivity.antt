@@ -6,7 +6,7 @@ use Rattle.std.specs.Prelude.{option_map, option_and_then}
 use Rattle.std.proofs.lemmas.Bool.{not-true}
 use Rattle.cic_terms.specs.Tree.{Former, ConstF, IndF, CtorF, CaseF, Tree, rel, node, Children, no_child, child, prod, ind}
 use Rattle.cic_terms.specs.Mentions.{Names, ChildrenMention}
-use Rattle.cic_terms.specs.declared.name.GlobalId.{GlobalId}
+use Rattle.cic_names.specs.declared.name.GlobalId.{GlobalId}
 use Rattle.cic_rules.specs.Sameness.{same_id}
 use Rattle.cic_rules.specs.Environment.{Block, TypeDeclaration, ConstructorDeclaration, bare_ids, element, or_else}
 use Rattle.cic_rules.specs.Telescopes.{is_among, is_type_among, apply, head_of, arguments_of, domains_of, conclusion_of}

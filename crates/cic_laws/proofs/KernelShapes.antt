@@ -8,8 +8,8 @@ use Rattle.std.proofs.Math.Seq.{take-append_seam, drop-append_seam}
 use Rattle.std.proofs.lemmas.List.{append-nil, length-map, take-append-drop, length-drop, length-take-le, length-replicate}
 use Rattle.cic_terms.specs.Tree.{TreeSort, prop, set, typ, own, Tree, sort, prod, ind}
 use Rattle.cic_terms.specs.Lift.{lift_tree}
-use Rattle.cic_terms.specs.declared.name.GlobalId.{GlobalId}
-use Rattle.cic_terms.specs.declared.level.Level.{Level}
+use Rattle.cic_names.specs.declared.name.GlobalId.{GlobalId}
+use Rattle.cic_names.specs.declared.level.Level.{Level}
 use Rattle.cic_rules.specs.Sameness.{same_tree}
 use Rattle.cic_rules.specs.Numbering.{plain_level}
 use Rattle.cic_rules.specs.Environment.{Block, TypeDeclaration, ConstructorDeclaration, element, or_else}

@@ -4,7 +4,7 @@
 use Rattle.std.proofs.Common.{◌≡◌, ℕ, Some, List, [], ◌∷◌, ◌++◌, length, refl, sym, ap, ◌∙◌, arith, subst}
 use Rattle.cic_terms.specs.Tree.{Tree, sort, ind}
 use Rattle.cic_terms.specs.Lift.{lift_tree, subst_tree}
-use Rattle.cic_terms.specs.declared.name.GlobalId.{GlobalId}
+use Rattle.cic_names.specs.declared.name.GlobalId.{GlobalId}
 use Rattle.cic_rules.specs.Numbering.{Numbering}
 use Rattle.cic_rules.specs.Environment.{Environment, Context, TypeInBlock, Block, TypeDeclaration, ConstructorDeclaration, Constructor, whole_block, constructor_of, element, assumed}
 use Rattle.cic_rules.specs.Telescopes.{apply, products, domains_of, extend, substitute_all, variables, lift_all, instantiate}

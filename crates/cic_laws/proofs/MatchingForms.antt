@@ -6,7 +6,7 @@ use Rattle.std.proofs.lemmas.List.{length-map}
 use Rattle.std.proofs.Math.Seq.{drop-append_seam}
 use Rattle.cic_terms.specs.Tree.{TreeSort, Tree, sort, ind, ctor}
 use Rattle.cic_terms.specs.Lift.{lift_tree}
-use Rattle.cic_terms.specs.declared.name.GlobalId.{GlobalId}
+use Rattle.cic_names.specs.declared.name.GlobalId.{GlobalId}
 use Rattle.cic_rules.specs.Environment.{TypeDeclaration, ConstructorDeclaration}
 use Rattle.cic_rules.specs.Telescopes.{apply, arguments_of, products, domains_of, conclusion_of, substitute_all, variables, lift_all, instantiate}
 use Rattle.cic_rules.specs.Inductive.{ArityShape, ConstructorShape}

@@ -3,7 +3,7 @@
 -- premises together and go through all constructors.
 use Rattle.std.proofs.Common.{◌≡◌, ℕ, Some, List, ◌∷◌, ◌++◌, length, refl}
 use Rattle.cic_terms.specs.Tree.{TreeSort, Tree, sort, ind}
-use Rattle.cic_terms.specs.declared.name.GlobalId.{GlobalId}
+use Rattle.cic_names.specs.declared.name.GlobalId.{GlobalId}
 use Rattle.cic_rules.specs.Numbering.{Numbering}
 use Rattle.cic_rules.specs.Environment.{Environment, Context, TypeInBlock, TypeDeclaration, ConstructorDeclaration, whole_block, element, assumed}
 use Rattle.cic_rules.specs.Telescopes.{apply, domains_of, extend, variables, lift_all, instantiate}

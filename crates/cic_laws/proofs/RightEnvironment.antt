@@ -4,7 +4,7 @@
 -- right, and so hold over each formed environment.
 use Rattle.std.proofs.Common.{◌≡◌, inl, inr, ℕ, suc, ◌+◌, Option, Some, None, List, [], ◌∷◌, ◌++◌, length, take, refl, sym, ap, ◌∙◌, subst, arith}
 use Rattle.cic_terms.specs.Tree.{TreeSort, Tree, sort}
-use Rattle.cic_terms.specs.declared.name.GlobalId.{GlobalId}
+use Rattle.cic_names.specs.declared.name.GlobalId.{GlobalId}
 use Rattle.cic_rules.specs.Numbering.{Numbering}
 use Rattle.cic_rules.specs.Environment.{Environment, Context, Declaration, axiom_of, transparent, opaque, inductive, Block, TypeDeclaration, ConstructorDeclaration, Constructor, Item, declared, bare, Arity, TypeInBlock, type_ids, environment_ids, Meaning, constant, whole_type, bare_type, constructor, or_else, where_same, item_meaning, type_meaning, meaning, constant_type_in, transparent_body_in, arity_in, arity_in_block, whole_block_in, constructor_in, constructor_in_type, constructor_in_block, element}
 use Rattle.cic_rules.specs.Telescopes.{products, domains_of}

@@ -4,7 +4,7 @@
 use Rattle.std.proofs.Common.{◌≡◌, ℕ, [], Option, Some, refl}
 use Rattle.cic_terms.specs.Tree.{Tree, sort}
 use Rattle.cic_terms.specs.Lift.{lift_tree}
-use Rattle.cic_terms.specs.declared.name.GlobalId.{GlobalId}
+use Rattle.cic_names.specs.declared.name.GlobalId.{GlobalId}
 use Rattle.cic_rules.specs.Numbering.{Numbering}
 use Rattle.cic_rules.specs.Environment.{Environment, Arity, Constructor, Meaning, constant, meaning, constant_type, constant_type_in, transparent_body_in, arity_of, constructor_of}
 use Rattle.cic_rules.specs.Typing.{HasSort}

@@ -6,7 +6,7 @@ use Rattle.std.proofs.Common.{◌≡◌, ℕ, zero, suc, ◌+◌, ◌<◌, List,
 use Rattle.std.proofs.lemmas.List.{length-map}
 use Rattle.cic_terms.specs.Tree.{FixF, Tree, rel, node, Children, child, prod, lam, app, ind, case}
 use Rattle.cic_terms.specs.Lift.{lift_tree, subst_rel, subst_tree}
-use Rattle.cic_terms.specs.declared.name.GlobalId.{GlobalId}
+use Rattle.cic_names.specs.declared.name.GlobalId.{GlobalId}
 use Rattle.cic_rules.specs.Numbering.{Numbering}
 use Rattle.cic_rules.specs.Environment.{Environment, Context, ConstructorDeclaration, assumed, type_at}
 use Rattle.cic_rules.specs.Telescopes.{apply, products, abstractions, extend, lift_domains, Function, function_parts, function_type, function_types, full_body, full_bodies}

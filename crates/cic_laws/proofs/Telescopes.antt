@@ -5,7 +5,7 @@ use Rattle.std.proofs.lemmas.Bool.Decides.{nat_tests}
 use Rattle.std.proofs.lemmas.List.{length-map, map-append}
 use Rattle.cic_terms.specs.Tree.{FixF, many, over, Tree, node, Children, no_child, child, lam, app, ctor, join, ind}
 use Rattle.cic_terms.specs.Lift.{lift_tree, subst_tree}
-use Rattle.cic_terms.specs.declared.name.GlobalId.{GlobalId}
+use Rattle.cic_names.specs.declared.name.GlobalId.{GlobalId}
 use Rattle.cic_rules.specs.Environment.{element}
 use Rattle.cic_rules.specs.Telescopes.{apply, abstractions, substitute_all, lift_domains, BranchParts, branch_at, Function, domain_parts, function_parts, function_shapes, fixpoint, full_body, each_fixpoint, unfolded}
 use Rattle.cic_laws.specs.Substitution.{renaming_under, rename, substitution_under_one, substitution_under, substitute, substitute_children, substitute_domains, substitute_function}

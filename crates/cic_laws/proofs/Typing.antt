@@ -6,7 +6,7 @@ use Rattle.std.proofs.Common.{◌≡◌, ℕ, zero, suc, ◌+◌, List, [], ◌�
 use Rattle.std.proofs.lemmas.List.{length-map, map-append}
 use Rattle.cic_terms.specs.Tree.{TreeSort, over, Tree, rel, Children, sort, prod, ind, ctor}
 use Rattle.cic_terms.specs.Lift.{lift_tree}
-use Rattle.cic_terms.specs.declared.name.GlobalId.{GlobalId}
+use Rattle.cic_names.specs.declared.name.GlobalId.{GlobalId}
 use Rattle.cic_rules.specs.Numbering.{Numbering}
 use Rattle.cic_rules.specs.Environment.{Environment, Context, TypeDeclaration, ConstructorDeclaration, assumed, defined}
 use Rattle.cic_rules.specs.Telescopes.{apply, products, extend, substitute_all, variables, lift_all, Function, function_parts, function_type, function_types, full_bodies}

@@ -4,7 +4,7 @@
 use Rattle.std.proofs.Common.{◌≡◌, ℕ, zero, suc, ◌+◌, List, [], ◌∷◌, ◌++◌, length, Option, Some, None, refl, sym, ap, ◌∙◌, arith}
 use Rattle.cic_terms.specs.Tree.{TreeSort, prop, set, typ, own, Tree, sort, ind}
 use Rattle.cic_terms.specs.Lift.{lift_tree}
-use Rattle.cic_terms.specs.declared.name.GlobalId.{GlobalId}
+use Rattle.cic_names.specs.declared.name.GlobalId.{GlobalId}
 use Rattle.cic_rules.specs.Numbering.{Numbering, expression_number}
 use Rattle.cic_rules.specs.Environment.{Environment, Context, Meaning, Arity, TypeInBlock, TypeDeclaration, constant, whole_type, bare_type, constructor, meaning, arity_in, arity_in_block, arity_of, whole_block, whole_block_in, element, type_at, Entry, assumed, defined}
 use Rattle.cic_rules.specs.Telescopes.{apply, products, extend, substitute_all, variables, lift_all, function_type}

@@ -2,7 +2,7 @@
 use Rattle.std.specs.Prelude.{◌≡◌, Some, None, List, [], ◌∷◌, map, Contains}
 use Rattle.cic_terms.specs.Tree.{Tree}
 use Rattle.cic_terms.specs.Mentions.{Mentions}
-use Rattle.cic_terms.specs.declared.name.GlobalId.{GlobalId}
+use Rattle.cic_names.specs.declared.name.GlobalId.{GlobalId}
 use Rattle.cic_rules.specs.Environment.{Environment, Declaration, opaque, Item, declared, Meaning, constant, whole_type, bare_type, constructor, meaning, type_ids}
 use Rattle.cic_rules.specs.Formed.{block_terms, declaration_terms}
 

@@ -3,7 +3,7 @@
 use Rattle.std.specs.Prelude.{ℕ, ◌+◌, ◌≡◌, ◌⊎◌, Some, length}
 use Rattle.cic_terms.specs.Tree.{Tree, rel}
 use Rattle.cic_terms.specs.Lift.{lift_tree}
-use Rattle.cic_terms.specs.declared.name.GlobalId.{GlobalId}
+use Rattle.cic_names.specs.declared.name.GlobalId.{GlobalId}
 use Rattle.cic_rules.specs.Environment.{Environment, Context, Arity, TypeInBlock, Constructor, constant_type, transparent_body, arity_of, whole_block, constructor_of, body_at}
 use Rattle.cic_rules.specs.Step.{Step}
 use Rattle.cic_laws.specs.Substitution.{rename, substitute}

@@ -2,7 +2,7 @@
 -- for a marked variable, and the functions of a Fix under a renaming or a substitution.
 use Rattle.std.specs.Prelude.{ℕ, ◌+◌, ◌≡◌, ◌≢◌, Some, List, [], ◌∷◌, length, map}
 use Rattle.cic_terms.specs.Tree.{Former, Binders, over, Tree, rel, node, Children, no_child, child}
-use Rattle.cic_terms.specs.declared.name.GlobalId.{GlobalId}
+use Rattle.cic_names.specs.declared.name.GlobalId.{GlobalId}
 use Rattle.cic_rules.specs.Environment.{Environment, TypeInBlock, whole_block}
 use Rattle.cic_rules.specs.Telescopes.{Function}
 use Rattle.cic_rules.specs.Guard.{Mark, plain, function, Marks, under_plain}

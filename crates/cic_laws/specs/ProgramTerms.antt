@@ -2,7 +2,7 @@
 -- level, so of two of them the program could not say which product they have.
 use Rattle.std.specs.Prelude.{◌≡◌, Some}
 use Rattle.cic_terms.specs.Tree.{TreeSort, own, Former, SortF, Tree, Children}
-use Rattle.cic_terms.specs.declared.name.GlobalId.{GlobalId}
+use Rattle.cic_names.specs.declared.name.GlobalId.{GlobalId}
 use Rattle.cic_rules.specs.Environment.{Environment, Context, Entry, Meaning, meaning}
 use Rattle.cic_rules.specs.Inductive.{Each}
 use Rattle.cic_laws.specs.Formers.{EachFormer, EachFormerOfParts}

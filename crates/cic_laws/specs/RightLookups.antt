@@ -2,7 +2,7 @@
 -- Each formed environment is so, and each formed one with a block of right arities taken bare after it.
 use Rattle.std.specs.Prelude.{ℕ, ◌≡◌, Some, List, [], length}
 use Rattle.cic_terms.specs.Tree.{Tree}
-use Rattle.cic_terms.specs.declared.name.GlobalId.{GlobalId}
+use Rattle.cic_names.specs.declared.name.GlobalId.{GlobalId}
 use Rattle.cic_rules.specs.Numbering.{Numbering}
 use Rattle.cic_rules.specs.Environment.{Environment, Arity, TypeInBlock, Block, TypeDeclaration, ConstructorDeclaration, Constructor, constant_type, transparent_body, arity_of, whole_block, constructor_of, element}
 use Rattle.cic_rules.specs.Inductive.{Each, ArityShape, ConstructorShape}

@@ -1,5 +1,5 @@
 ghost use Rattle.std.specs.Prelude.{◌≡◌, ℕ, ◌++◌, Contains, IsPermutation};
-ghost use Rattle.cic_terms.specs.declared.name.GlobalId.{GlobalId};
+ghost use Rattle.cic_names.specs.declared.name.GlobalId.{GlobalId};
 ghost use Rattle.cic_rules.specs.Environment.{Environment, Declaration, environment_ids, meaning};
 ghost use Rattle.cic_rules.specs.Formed.{Distinct};
 ghost use Rattle.cic_counted.specs.Checking.{check_declaration};

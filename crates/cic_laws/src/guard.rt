@@ -3,7 +3,7 @@
 ghost use Rattle.std.specs.Prelude.{List, [], ◌∷◌, ◌++◌, ◌≡◌, Option, ℕ, length, map};
 ghost use Rattle.cic_terms.specs.Tree.{Tree};
 ghost use Rattle.cic_terms.specs.Lift.{lift_tree, subst_rel, subst_tree};
-ghost use Rattle.cic_terms.specs.declared.name.GlobalId.{GlobalId};
+ghost use Rattle.cic_names.specs.declared.name.GlobalId.{GlobalId};
 ghost use Rattle.cic_rules.specs.Environment.{Environment, Block, bare, declared, inductive};
 ghost use Rattle.cic_rules.specs.Telescopes.{Function, fixpoint};
 ghost use Rattle.cic_rules.specs.Guard.{Mark, Marks, Smaller, Fine, Guarded};

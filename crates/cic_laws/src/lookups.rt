@@ -2,7 +2,7 @@
 ghost use Rattle.std.specs.Prelude.{◌≡◌, ℕ, Some, [], ◌∷◌, ◌++◌};
 ghost use Rattle.cic_terms.specs.Tree.{Tree};
 ghost use Rattle.cic_terms.specs.Lift.{lift_tree};
-ghost use Rattle.cic_terms.specs.declared.name.GlobalId.{GlobalId};
+ghost use Rattle.cic_names.specs.declared.name.GlobalId.{GlobalId};
 ghost use Rattle.cic_rules.specs.Numbering.{Numbering};
 ghost use Rattle.cic_rules.specs.Environment.{Environment, Block, Arity, Constructor, declared, bare, inductive, environment_ids, constant_type, arity_of, constructor_of};
 ghost use Rattle.cic_rules.specs.Inductive.{Each};

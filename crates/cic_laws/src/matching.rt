@@ -1,7 +1,7 @@
 //! Laws: the contexts of a match are well formed, and the goals of its branches have sorts.
 ghost use Rattle.std.specs.Prelude.{◌≡◌, ◌++◌, ◌∷◌, ℕ, List, Some, length};
 ghost use Rattle.cic_terms.specs.Tree.{Tree, TreeSort, ind, sort};
-ghost use Rattle.cic_terms.specs.declared.name.GlobalId.{GlobalId};
+ghost use Rattle.cic_names.specs.declared.name.GlobalId.{GlobalId};
 ghost use Rattle.cic_rules.specs.Numbering.{Numbering};
 ghost use Rattle.cic_rules.specs.Environment.{Environment, Context, TypeInBlock, TypeDeclaration, ConstructorDeclaration, whole_block, element, assumed};
 ghost use Rattle.cic_rules.specs.Telescopes.{apply, domains_of, extend, instantiate, lift_all, variables};

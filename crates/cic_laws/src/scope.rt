@@ -3,7 +3,7 @@ ghost use Rattle.std.specs.Prelude.{◌≡◌, ◌<◌, ℕ, [], length, Contain
 ghost use Rattle.cic_terms.specs.Tree.{Tree, rel};
 ghost use Rattle.cic_terms.specs.Lift.{lift_tree, subst_tree};
 ghost use Rattle.cic_terms.specs.Mentions.{Mentions};
-ghost use Rattle.cic_terms.specs.declared.name.GlobalId.{GlobalId};
+ghost use Rattle.cic_names.specs.declared.name.GlobalId.{GlobalId};
 ghost use Rattle.cic_rules.specs.Numbering.{Numbering};
 ghost use Rattle.cic_rules.specs.Environment.{Environment, Context, environment_ids};
 ghost use Rattle.cic_rules.specs.Typing.{Typed};

@@ -2,7 +2,7 @@
 ghost use Rattle.std.specs.Prelude.{◌≡◌, ◌+◌, ◌++◌, ◌∷◌, ℕ, List, [], Some, length};
 ghost use Rattle.cic_terms.specs.Tree.{Tree, TreeSort, ind, sort};
 ghost use Rattle.cic_terms.specs.Lift.{lift_tree};
-ghost use Rattle.cic_terms.specs.declared.name.GlobalId.{GlobalId};
+ghost use Rattle.cic_names.specs.declared.name.GlobalId.{GlobalId};
 ghost use Rattle.cic_rules.specs.Numbering.{Numbering};
 ghost use Rattle.cic_rules.specs.Environment.{Environment, Context, Arity, arity_of, assumed, type_at};
 ghost use Rattle.cic_rules.specs.Telescopes.{apply, extend, lift_all, products, substitute_all, variables};

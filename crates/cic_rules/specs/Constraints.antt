@@ -1,10 +1,10 @@
 -- Constraints between universe levels, and sets of them (Coq Reference Manual, "Universes").
 use Rattle.std.specs.Prelude.{ℕ, Bool, true, false, if◌then◌else◌, nat_lt, List, [], ◌∷◌, ◌++◌, length}
-pub use Rattle.cic_terms.specs.declared.constraint.Constraint.{Constraint}
-use Rattle.cic_terms.specs.declared.level.Part.{Part}
-use Rattle.cic_terms.specs.declared.level.Part.TheVariants.{Declared, Visible, Proof}
-use Rattle.cic_terms.specs.declared.level.Level.{Level}
-use Rattle.cic_terms.specs.declared.level.Level.TheVariants.{Set, Named}
+pub use Rattle.cic_names.specs.declared.constraint.Constraint.{Constraint}
+use Rattle.cic_names.specs.declared.level.Part.{Part}
+use Rattle.cic_names.specs.declared.level.Part.TheVariants.{Declared, Visible, Proof}
+use Rattle.cic_names.specs.declared.level.Level.{Level}
+use Rattle.cic_names.specs.declared.level.Level.TheVariants.{Set, Named}
 
 -- The key of a constraint, which orders constraints (this project's own): the left level, 1 where it is
 -- strict and else 0, the right level. The key of a level is 0 for Set, and else 1, 2 or 3 for its part,

@@ -1,7 +1,7 @@
 -- Declarations, environments with their lookups, and contexts.
 use Rattle.std.specs.Prelude.{ℕ, zero, suc, ◌+◌, if◌then◌else◌, Option, Some, None, List, [], ◌∷◌, ◌++◌, map}
 use Rattle.cic_terms.specs.Tree.{Tree}
-use Rattle.cic_terms.specs.declared.name.GlobalId.{GlobalId}
+use Rattle.cic_names.specs.declared.name.GlobalId.{GlobalId}
 use Rattle.cic_rules.specs.Sameness.{same_id}
 
 -- A constructor of an inductive type with its type, which begins with the parameters' products

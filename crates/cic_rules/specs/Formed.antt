@@ -3,7 +3,7 @@
 use Rattle.std.specs.Prelude.{ℕ, ◌≡◌, ◌≢◌, Some, None, List, [], ◌∷◌, ◌++◌, length, map, Contains}
 use Rattle.cic_terms.specs.Tree.{TreeSort, prop, Tree, sort, ind}
 use Rattle.cic_terms.specs.Mentions.{Mentions}
-use Rattle.cic_terms.specs.declared.name.GlobalId.{GlobalId}
+use Rattle.cic_names.specs.declared.name.GlobalId.{GlobalId}
 use Rattle.cic_rules.specs.Constraints.{Constraint}
 use Rattle.cic_rules.specs.Numbering.{Numbering, IsNumbering, MeetsAll, Consistent}
 use Rattle.cic_rules.specs.Environment.{Environment, Context, Declaration, axiom_of, transparent, opaque, inductive, Block, TypeDeclaration, Item, declared, bare, declared_ids, environment_ids, assumed}

@@ -2,7 +2,7 @@
 -- definitions" and their guard condition; the condition here is stricter and this project's own).
 use Rattle.std.specs.Prelude.{ℕ, zero, suc, ◌+◌, ◌≡◌, ◌≢◌, if◌then◌else◌, Option, Some, None, List, [], ◌∷◌, ◌++◌, length, map, drop, replicate}
 use Rattle.cic_terms.specs.Tree.{Former, Binders, over, Tree, rel, node, Children, no_child, child, lam, app, ind, case}
-use Rattle.cic_terms.specs.declared.name.GlobalId.{GlobalId}
+use Rattle.cic_names.specs.declared.name.GlobalId.{GlobalId}
 use Rattle.cic_rules.specs.Environment.{Environment, TypeInBlock, Block, TypeDeclaration, ConstructorDeclaration, whole_block, element, bare_ids}
 use Rattle.cic_rules.specs.Telescopes.{is_among, is_type_among, apply, head_of, domains_of, conclusion_of, Function}
 

@@ -5,9 +5,9 @@
 use Rattle.std.specs.Prelude.{ℕ, ◌≡◌, Some, List, [], ◌∷◌, ◌++◌, length, Contains}
 use Rattle.cic_terms.specs.Tree.{TreeSort, prop, set, typ, Tree, sort, prod, ind}
 use Rattle.cic_terms.specs.Mentions.{Mentions}
-use Rattle.cic_terms.specs.declared.name.GlobalId.{GlobalId}
-use Rattle.cic_terms.specs.declared.level.Level.{Level}
-use Rattle.cic_terms.specs.declared.level.Atom.{Atom}
+use Rattle.cic_names.specs.declared.name.GlobalId.{GlobalId}
+use Rattle.cic_names.specs.declared.level.Level.{Level}
+use Rattle.cic_names.specs.declared.level.Atom.{Atom}
 use Rattle.cic_rules.specs.Environment.{Block, TypeDeclaration, bare_ids}
 use Rattle.cic_rules.specs.Telescopes.{apply, products, variables, lift_all}
 use Rattle.cic_rules.specs.Numbering.{plain_level}

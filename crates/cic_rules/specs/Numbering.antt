@@ -1,10 +1,10 @@
 -- Numbers for universe levels: when constraints between levels hold (Coq Reference Manual, "Universes").
 use Rattle.std.specs.Prelude.{ℕ, ◌+◌, ◌<◌, ◌≤◌, ◌≡◌, ◌≢◌, max, Bool, true, false, if◌then◌else◌, Option, Some, None, List, [], ◌∷◌, Contains}
 use Rattle.cic_terms.specs.Tree.{TreeSort, prop, set, typ, own}
-use Rattle.cic_terms.specs.declared.level.LevelName.{LevelName}
-use Rattle.cic_terms.specs.declared.level.Level.{Level}
-use Rattle.cic_terms.specs.declared.level.Level.TheVariants.{Set, Named}
-use Rattle.cic_terms.specs.declared.level.Atom.{Atom}
+use Rattle.cic_names.specs.declared.level.LevelName.{LevelName}
+use Rattle.cic_names.specs.declared.level.Level.{Level}
+use Rattle.cic_names.specs.declared.level.Level.TheVariants.{Set, Named}
+use Rattle.cic_names.specs.declared.level.Atom.{Atom}
 use Rattle.cic_rules.specs.Sameness.{same_level_name}
 use Rattle.cic_rules.specs.Constraints.{Constraint, level_key, below, compare_keys}
 

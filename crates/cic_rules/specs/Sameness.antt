@@ -1,13 +1,13 @@
 -- Tests of equality, which compute: names, levels, sorts and terms that are the same, part by part.
 use Rattle.std.specs.Prelude.{Bool, true, false, ◌&&◌, nat_eq, List, [], ◌∷◌}
 use Rattle.cic_terms.specs.Tree.{TreeSort, prop, set, typ, own, Shape, Former, SortF, ProdF, LamF, AppF, LetF, ConstF, IndF, CtorF, CaseF, FixF, Binders, none, one, many, more, Tree, rel, node, Children, no_child, child}
-use Rattle.cic_terms.specs.declared.name.GlobalId.{GlobalId}
-use Rattle.cic_terms.specs.declared.level.Part.{Part}
-use Rattle.cic_terms.specs.declared.level.Part.TheVariants.{Declared, Visible, Proof}
-use Rattle.cic_terms.specs.declared.level.LevelName.{LevelName}
-use Rattle.cic_terms.specs.declared.level.Level.{Level}
-use Rattle.cic_terms.specs.declared.level.Level.TheVariants.{Set, Named}
-use Rattle.cic_terms.specs.declared.level.Atom.{Atom}
+use Rattle.cic_names.specs.declared.name.GlobalId.{GlobalId}
+use Rattle.cic_names.specs.declared.level.Part.{Part}
+use Rattle.cic_names.specs.declared.level.Part.TheVariants.{Declared, Visible, Proof}
+use Rattle.cic_names.specs.declared.level.LevelName.{LevelName}
+use Rattle.cic_names.specs.declared.level.Level.{Level}
+use Rattle.cic_names.specs.declared.level.Level.TheVariants.{Set, Named}
+use Rattle.cic_names.specs.declared.level.Atom.{Atom}
 
 -- Two lists of which each element is the same as that at its place in the other.
 abbrev pub same_list : {A : Type 0} → (A → A → Bool) → List A → List A → Bool

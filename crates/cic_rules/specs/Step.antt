@@ -3,7 +3,7 @@
 use Rattle.std.specs.Prelude.{ℕ, ◌+◌, ◌≡◌, Some, List, [], ◌∷◌, ◌++◌, length}
 use Rattle.cic_terms.specs.Tree.{Former, Binders, over, Tree, rel, node, Children, child, lam, let_in, app, const, ctor, case}
 use Rattle.cic_terms.specs.Lift.{lift_tree, subst_tree}
-use Rattle.cic_terms.specs.declared.name.GlobalId.{GlobalId}
+use Rattle.cic_names.specs.declared.name.GlobalId.{GlobalId}
 use Rattle.cic_rules.specs.Environment.{Environment, Context, Constructor, transparent_body, constructor_of, body_at, element, defined, under_unknown}
 use Rattle.cic_rules.specs.Telescopes.{apply, substitute_all, branch_at, Function, fixpoint, unfolded}
 

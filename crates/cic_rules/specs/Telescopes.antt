@@ -4,7 +4,7 @@ use Rattle.cic_terms.specs.Tree.{Shape, many, over, Tree, rel, Children, no_chil
 use Rattle.cic_terms.specs.Lift.{lift_tree, subst_tree}
 use Rattle.cic_rules.specs.Environment.{Context, assumed}
 use Rattle.cic_rules.specs.Sameness.{same_id, same_children}
-use Rattle.cic_terms.specs.declared.name.GlobalId.{GlobalId}
+use Rattle.cic_names.specs.declared.name.GlobalId.{GlobalId}
 use Rattle.std.specs.List.{list_any}
 
 -- A function applied to arguments, the first innermost.

@@ -3,7 +3,7 @@
 use Rattle.std.specs.Prelude.{ℕ, ◌+◌, ◌≡◌, ◌≢◌, Some, List, [], ◌∷◌, ◌++◌, length}
 use Rattle.cic_terms.specs.Tree.{TreeSort, prop, set, Shape, Binders, over, Tree, rel, Children, no_child, child, sort, prod, lam, let_in, app, const, ind, ctor, case, fix}
 use Rattle.cic_terms.specs.Lift.{lift_tree, subst_tree}
-use Rattle.cic_terms.specs.declared.name.GlobalId.{GlobalId}
+use Rattle.cic_names.specs.declared.name.GlobalId.{GlobalId}
 use Rattle.cic_rules.specs.Numbering.{Numbering, sort_number}
 use Rattle.cic_rules.specs.Environment.{Environment, Context, Arity, TypeInBlock, TypeDeclaration, ConstructorDeclaration, Constructor, constant_type, arity_of, whole_block, constructor_of, type_at, element, assumed, defined}
 use Rattle.cic_rules.specs.Telescopes.{apply, products, extend, substitute_all, variables, lift_all, Function, function_parts, function_shapes, function_type, function_types, full_bodies}

@@ -6,6 +6,5 @@ pub mod LiftSubst
 pub mod Most
 pub mod Mentioned
 pub mod Sameness
-pub mod Blocks
 pub mod Shaped
 pub mod Gathered

@@ -3,7 +3,7 @@ use Rattle.std.specs.Prelude.{ℕ, List, [], ◌∷◌, take, Vec, Option, None,
 use Rattle.cic_terms.specs.Tree.{Tree, Children}
 use Rattle.cic_terms.specs.Sizes.{Fits, ChildrenFit}
 use Rattle.cic_terms.specs.Mentions.{Mentions, ChildrenMention}
-use Rattle.cic_terms.specs.declared.name.GlobalId.{GlobalId}
+use Rattle.cic_names.specs.declared.name.GlobalId.{GlobalId}
 use Rattle.cic_terms.specs.Denotes.{tree, branches, bodies, terms, shapes, body_parts, shape}
 use Rattle.std.specs.declared.rc.Rc.{Rc}
 use Rattle.std.specs.declared.alloc.Global.{Global}

@@ -1,8 +1,8 @@
 -- The tree that a term of the program stands for.
 use Rattle.std.specs.Prelude.{ℕ, suc, ◌+◌, List, [], ◌∷◌, length}
 use Rattle.cic_terms.specs.Tree.{TreeSort, prop, set, typ, Shape, Tree, rel, Children, no_child, child, sort, prod, lam, let_in, app, const, ind, ctor, case, fix, join, many}
-use Rattle.cic_terms.specs.declared.level.Sort.{Sort}
-use Rattle.cic_terms.specs.declared.level.Sort.TheVariants.{Prop, Set, Typ}
+use Rattle.cic_names.specs.declared.level.Sort.{Sort}
+use Rattle.cic_names.specs.declared.level.Sort.TheVariants.{Prop, Set, Typ}
 use Rattle.cic_terms.specs.declared.term.Term.{Term, Rel, Sort as SortTerm, Prod', Lam', Let', App', Const, Ind, Ctor, Case', Fix'}
 use Rattle.cic_terms.specs.declared.term.Branches.{Branches, Branches', Row_of-Branch, end_of-Branch, more_of-Branch}
 use Rattle.cic_terms.specs.declared.term.FixBodies.{FixBodies, FixBodies', Row_of-FixBody, end_of-FixBody, more_of-FixBody, Row_of-Term, end_of-Term, more_of-Term}

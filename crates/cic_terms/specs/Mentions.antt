@@ -1,7 +1,7 @@
 -- Where an id stands in a tree.
 use Rattle.std.specs.Prelude.{◌≡◌, ◌⊎◌}
 use Rattle.cic_terms.specs.Tree.{Tree, rel, node, Children, no_child, child, Former, ConstF, IndF, CtorF, CaseF}
-use Rattle.cic_terms.specs.declared.name.GlobalId.{GlobalId}
+use Rattle.cic_names.specs.declared.name.GlobalId.{GlobalId}
 
 abbrev pub Names : GlobalId → Former → Type 0
 Names id (ConstF other) = other ≡ id

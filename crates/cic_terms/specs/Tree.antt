@@ -1,7 +1,7 @@
 -- Terms as finite trees: a former over parts, each under a number of binders.
 use Rattle.std.specs.Prelude.{ℕ, ◌+◌, List}
-use Rattle.cic_terms.specs.declared.level.Atom.{Atom}
-use Rattle.cic_terms.specs.declared.name.GlobalId.{GlobalId}
+use Rattle.cic_names.specs.declared.level.Atom.{Atom}
+use Rattle.cic_names.specs.declared.name.GlobalId.{GlobalId}
 
 -- `own` is a universe that a derivation brings; no term of the program has it
 pub data TreeSort : Type 0 where

@@ -2,8 +2,8 @@
 ghost use Rattle.std.specs.Prelude.{◌≡◌, IfOk};
 ghost use Rattle.cic_terms.specs.Denotes.{tree};
 
-use crate::name::NoMemory;
 use crate::term::Term;
+use cic_names::NoMemory;
 use std::rc::Rc;
 
 pub(crate) fn share<T: Drop>(part: &Rc<T>) -> Result<Rc<T>, NoMemory>

@@ -3,8 +3,8 @@ ghost use Rattle.cic_terms.specs.Denotes.{tree, branches, bodies, terms, shapes,
 ghost use Rattle.cic_terms.specs.Mentions.{Mentions, ChildrenMention};
 ghost use Rattle.cic_terms.specs.Answer.{PartsMention};
 
-use crate::name::GlobalId;
 use crate::term::{Branches, FixBodies, FixBody, Term, Terms};
+use cic_names::GlobalId;
 
 /// Whether the id stands in the term.
 #[cycle(mentions)]

@@ -5,8 +5,8 @@ ghost use Rattle.cic_terms.specs.Denotes.{tree, branches, bodies, shapes};
 ghost use Rattle.cic_terms.specs.Tree.{rel, prod, lam, let_in, app, case, fix};
 
 use crate::copying::{copy, share};
-use crate::name::{GlobalId, NoMemory};
 use crate::term::{Branches, FixBodies, Term, TermFault, copy_id, shared};
+use cic_names::{GlobalId, NoMemory};
 use std::alloc::Global;
 use std::rc::Rc;
 

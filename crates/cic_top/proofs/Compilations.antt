@@ -2,7 +2,7 @@
 -- its environment is formed at every numbering, since the check of each of its axioms accepted it.
 use Rattle.std.proofs.Common.{◌≡◌, ℕ, List, [], ◌∷◌, refl, sym, subst}
 use Rattle.cic_terms.specs.Tree.{Tree, rel, sort, prod, const}
-use Rattle.cic_terms.specs.declared.name.GlobalId.{GlobalId}
+use Rattle.cic_names.specs.declared.name.GlobalId.{GlobalId}
 use Rattle.cic_rules.specs.Environment.{Environment, declared, axiom_of, environment_ids}
 use Rattle.cic_rules.specs.Numbering.{Numbering}
 use Rattle.cic_rules.specs.Formed.{Distinct, Formed, nothing_declared}

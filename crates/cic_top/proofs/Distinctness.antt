@@ -5,7 +5,7 @@ use Rattle.std.proofs.lemmas.List.Elements.{Contains-append_cases}
 use Rattle.cic_laws.proofs.EnvironmentsOrder.{contains_first, contains_rest, contains_cases, contains_none}
 use Rattle.std.specs.Prelude.{Contains}
 use Rattle.cic_terms.specs.Tree.{Tree}
-use Rattle.cic_terms.specs.declared.name.GlobalId.{GlobalId}
+use Rattle.cic_names.specs.declared.name.GlobalId.{GlobalId}
 use Rattle.cic_rules.specs.Environment.{Environment, declared, axiom_of, item_ids, environment_ids}
 use Rattle.cic_rules.specs.Formed.{Distinct}
 use Rattle.gal_elab.specs.Scoping.{Declares}

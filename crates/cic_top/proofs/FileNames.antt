@@ -9,7 +9,7 @@ use Rattle.std.proofs.lemmas.List.Elements.{Contains-append_cases}
 use Rattle.std.proofs.lemmas.Str.{IsUtf8-append, IsUtf8-from_is_utf8, IsUtf8-take, IsUtf8-drop, IsCharBoundary-before_ascii, encode_ascii, chars-append, chars_past_char}
 use Rattle.std.specs.List.{Contains, list_all}
 use Rattle.std.specs.Str.{IsUtf8, is_utf8, chars}
-use Rattle.cic_terms.specs.Identifier.{is_first, is_further, is_word, IsIdentifier}
+use Rattle.cic_names.specs.Identifier.{is_first, is_further, is_word, IsIdentifier}
 use Rattle.cic_io.specs.FileName.{IsFileName}
 use Rattle.cic_top.specs.CommandLine.{IsName, source_name}
 

@@ -14,7 +14,7 @@ use Rattle.std.proofs.lemmas.List.{drop_more}
 use Rattle.std.proofs.lemmas.Map.Text.{is_eq-slice_cmp}
 use Rattle.std.proofs.lemmas.Slice.Eq.{bytes_eq-Decides}
 use Rattle.cic_terms.specs.Tree.{Tree}
-use Rattle.cic_terms.specs.declared.name.GlobalId.{GlobalId}
+use Rattle.cic_names.specs.declared.name.GlobalId.{GlobalId}
 use Rattle.cic_rules.specs.Environment.{Environment, Declaration, declared, axiom_of}
 use Rattle.cic_env.specs.Declarations.{declaration, item}
 use Rattle.cic_env.specs.declared.declaration.Decl.{Decl}

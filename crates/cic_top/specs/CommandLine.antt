@@ -1,7 +1,7 @@
 -- The command lines that the program takes, and the first word that is not understood. A command
 -- line is the list of its words after the program's name, each a list of bytes.
 use Rattle.std.specs.Prelude.{ℕ, ◌+◌, ◌<◌, ◌≤◌, ◌≡◌, ◌⊎◌, List, [], ◌∷◌, ◌++◌, length, take, codes}
-use Rattle.cic_terms.specs.Identifier.{IsIdentifier}
+use Rattle.cic_names.specs.Identifier.{IsIdentifier}
 
 -- A name: an identifier of at most 255 bytes.
 pub record IsName (a : List ℕ) : Type 0 where

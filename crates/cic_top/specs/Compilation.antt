@@ -1,7 +1,7 @@
 -- How a source is compiled: each sentence, in order, declares something or is refused.
 use Rattle.std.specs.Prelude.{ℕ, ◌≡◌, List, [], ◌∷◌, ◌++◌}
 use Rattle.cic_terms.specs.Tree.{Tree}
-use Rattle.cic_terms.specs.declared.name.GlobalId.{GlobalId}
+use Rattle.cic_names.specs.declared.name.GlobalId.{GlobalId}
 use Rattle.cic_rules.specs.Environment.{Environment, axiom_of, declared}
 use Rattle.cic_counted.specs.Outcome as O
 use Rattle.cic_counted.specs.Checking.{Found, accepts, rejects, check_declaration}

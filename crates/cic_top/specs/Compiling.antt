@@ -1,7 +1,7 @@
 -- What the calls that compile a source answer.
 use Rattle.std.specs.Prelude.{ℕ, List, [], ◌∷◌, ◌++◌, Result, Ok, Err, ◌≡◌}
 use Rattle.cic_terms.specs.Tree.{Tree}
-use Rattle.cic_terms.specs.declared.name.GlobalId.{GlobalId}
+use Rattle.cic_names.specs.declared.name.GlobalId.{GlobalId}
 use Rattle.cic_rules.specs.Environment.{Environment, Declaration, axiom_of, declared}
 use Rattle.cic_counted.specs.Outcome.{Stopped}
 use Rattle.cic_counted.specs.Checking.{Found, accepts, rejects, check_declaration}

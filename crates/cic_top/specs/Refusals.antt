@@ -1,6 +1,6 @@
 -- Why a command is refused, and what a command answers.
 use Rattle.std.specs.Prelude.{ℕ, List}
-use Rattle.cic_terms.specs.declared.name.GlobalId.{GlobalId}
+use Rattle.cic_names.specs.declared.name.GlobalId.{GlobalId}
 use Rattle.cic_counted.specs.Outcome.{Cause}
 
 -- A refusal, with what it names: a file that is not there; the place of a source from which on it is

@@ -4,7 +4,7 @@ ghost use Rattle.cic_top.specs.Views.{answer_of, refusal_of};
 
 use cic_env::Cause;
 use cic_io::FileName;
-use cic_terms::{GlobalId, Name};
+use cic_names::{GlobalId, Name};
 
 /// Why a command is refused, with what the refusal names.
 #[derive(Drop)]

@@ -2,7 +2,7 @@ ghost use Rattle.std.specs.Prelude.{◌≡◌, ◌++◌, ◌≤◌, codes, map, 
 ghost use Rattle.cic_top.specs.CommandLine.{IsName, CommandLine, FirstNotUnderstood, source_name};
 ghost use Rattle.cic_top.specs.Reading.{IsLibraryOf, IsUnderstood};
 
-use cic_terms::{Name, NameFault, NoMemory};
+use cic_names::{Name, NameFault, NoMemory};
 use std::alloc::Global;
 use std::marker::Model;
 

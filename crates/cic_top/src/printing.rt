@@ -14,7 +14,8 @@ ghost use Rattle.cic_top.specs.Lines.{HasCauseText, HasAxiomLines, HasLine, AreS
 
 use crate::answer::Refusal;
 use cic_env::{Cause, Decl, Env, Missing};
-use cic_terms::{GlobalId, NoMemory, Term};
+use cic_names::{GlobalId, NoMemory};
+use cic_terms::Term;
 use gal_print::{print_id, print_term};
 use std::alloc::{AllocError, Global};
 use std::collections::BTreeMap;

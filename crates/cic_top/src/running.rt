@@ -22,7 +22,7 @@ use crate::printing::{axiom_list, refusal_line, word_line};
 use crate::source::{LONGEST_SOURCE, Source, source_in};
 use cic_env::Env;
 use cic_io::{FileName, Folder, FolderFault, Sink, SinkFault};
-use cic_terms::{Name, NoMemory};
+use cic_names::{Name, NoMemory};
 use std::alloc::Global;
 
 /// What a command says: its answer, and what it prints.

@@ -8,7 +8,7 @@ use Rattle.std.specs.Map.{lookup}
 use Rattle.cic_terms.specs.Tree.{Tree, const}
 use Rattle.cic_terms.specs.Denotes.{tree}
 use Rattle.cic_terms.specs.declared.term.Term.{Term}
-use Rattle.cic_terms.specs.declared.name.GlobalId.{GlobalId}
+use Rattle.cic_names.specs.declared.name.GlobalId.{GlobalId}
 use Rattle.cic_rules.specs.Sameness.{same_id}
 use Rattle.cic_rules.specs.Environment.{Environment, environment_ids}
 use Rattle.cic_env.proofs.Lookups.{same_id-true, same_id-refl}

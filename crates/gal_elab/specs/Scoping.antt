@@ -3,7 +3,7 @@
 -- Manual, "Functions and assumptions" and "Qualified identifiers").
 use Rattle.std.specs.Prelude.{ℕ, zero, suc, ◌≡◌, ◌≢◌, List, [], ◌∷◌, Option, Some, None, Contains}
 use Rattle.cic_terms.specs.Tree.{Tree, rel, sort, prop, prod, const}
-use Rattle.cic_terms.specs.declared.name.GlobalId.{GlobalId}
+use Rattle.cic_names.specs.declared.name.GlobalId.{GlobalId}
 use Rattle.cic_rules.specs.Environment.{Environment, environment_ids}
 use Rattle.gal_parser.specs.Grammar as G
 

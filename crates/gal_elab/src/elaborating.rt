@@ -11,7 +11,8 @@ ghost use Rattle.gal_elab.specs.Answers.{OnUnknown, Tells, TellsProduct, levels_
 
 use crate::levels::{Levels, enter, leave};
 use cic_env::Env;
-use cic_terms::{GlobalId, Name, NoMemory, Sort, Term};
+use cic_names::{GlobalId, Name, NoMemory, Sort};
+use cic_terms::Term;
 use gal_parser::Raw;
 use std::alloc::Global;
 use std::collections::HashMap;

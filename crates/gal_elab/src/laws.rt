@@ -6,7 +6,7 @@ ghost use Rattle.gal_parser.specs.Views.{raw_term};
 ghost use Rattle.gal_elab.specs.Scoping.{Binders, StandsFor, FirstUnknown};
 
 use cic_env::Env;
-use cic_terms::Name;
+use cic_names::Name;
 use gal_parser::Raw;
 
 /// Under any binders, a written term stands for at most one term.

@@ -4,7 +4,7 @@ ghost use Rattle.std.specs.Prelude.{◌≡◌, IfOk, OnOk, Some};
 ghost use Rattle.gal_elab.specs.Resolving.{put};
 ghost use Rattle.gal_elab.specs.Answers.{levels_in};
 
-use cic_terms::{Name, NoMemory};
+use cic_names::{Name, NoMemory};
 use std::collections::HashMap;
 
 /// From a name to the level of its innermost binder, which is the number of binders outside it.

@@ -7,7 +7,7 @@ use Rattle.std.specs.Str.{chars, is_utf8}
 use Rattle.std.proofs.lemmas.Bool.Decides.{nat_tests}
 use Rattle.std.specs.Int.{is_in_range}
 use Rattle.std.specs.List.{list_all, prefix_len}
-use Rattle.cic_terms.specs.Identifier.{is_word, is_reserved, IsIdentifier}
+use Rattle.cic_names.specs.Identifier.{is_word, is_reserved, IsIdentifier}
 use Rattle.gal_parser.specs.Tokens.{is_blank, after_blanks, first_passes, begins_word, continues_word, SpellsWord, SpellsIdentifier, SpellsColon, SpellsStop, SpellsSymbol}
 
 both_true : (a b : Bool) → (a && b) ≡ true → (a ≡ true) × (b ≡ true)

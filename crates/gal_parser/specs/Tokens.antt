@@ -3,7 +3,7 @@
 use Rattle.std.specs.Prelude.{ℕ, Bool, true, false, List, [], ◌∷◌, ◌++◌, ◌≡◌, ◌≤◌, ◌||◌, ◌==◌, length, if◌then◌else◌, IsTrue, IsFalse}
 use Rattle.std.specs.List.{list_all}
 use Rattle.std.specs.Char.{is_ascii_alphabetic, is_ascii_alphanumeric}
-use Rattle.cic_terms.specs.Identifier.{IsIdentifier}
+use Rattle.cic_names.specs.Identifier.{IsIdentifier}
 
 -- space, tab, carriage return and line feed
 abbrev pub is_blank : ℕ → Bool

@@ -1,6 +1,6 @@
 ghost use Rattle.std.specs.Prelude.{◌≡◌, length, IsTrue, ◌↔◌, slice_get, option_copied};
 
-use cic_terms::Name;
+use cic_names::Name;
 use std::marker::Model;
 use std::slice::Iter;
 

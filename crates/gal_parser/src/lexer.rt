@@ -6,7 +6,7 @@ ghost use Rattle.gal_parser.specs.Answers.{Takes, TakesIf, TakesOrLeaves};
 ghost use Rattle.gal_parser.specs.declared.lexer.Fault.TheVariants.{NoMemory};
 ghost use Rattle.gal_parser.specs.Tokens.{is_blank, after_blanks, begins_word, continues_word, first_passes, ends_or_blank, SpellsWord, SpellsIdentifier, SpellsColon, SpellsStop, SpellsSymbol};
 
-use cic_terms::{Name, NameFault};
+use cic_names::{Name, NameFault};
 use std::alloc::{AllocFailed, Global};
 
 /// Why something could not be read: what is left does not begin with it, or memory ran out.

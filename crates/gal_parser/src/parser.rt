@@ -7,7 +7,7 @@ ghost use Rattle.gal_parser.specs.Views.{raw_term, sentence_of, sentences_of};
 
 use crate::command::{Command, Commands, Raw};
 use crate::lexer::{Fault, Reader, after_blanks};
-use cic_terms::NoMemory;
+use cic_names::NoMemory;
 use std::alloc::Global;
 
 /// Why a source gives no sentences.

@@ -3,7 +3,7 @@
 -- constants and products.
 use Rattle.std.specs.Prelude.{ℕ, ◌+◌, ◌-◌, ◌≡◌, ◌≤◌, ◌<◌, ◌⊎◌, List, ◌++◌, codes, decimal}
 use Rattle.cic_terms.specs.Tree.{Tree, rel, node, Children, no_child, child, over, sort, prop, prod, const}
-use Rattle.cic_terms.specs.declared.name.GlobalId.{GlobalId}
+use Rattle.cic_names.specs.declared.name.GlobalId.{GlobalId}
 
 -- An id is printed as the library, a dot, and the name.
 abbrev pub id_text : GlobalId → List ℕ

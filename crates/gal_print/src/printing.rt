@@ -4,7 +4,8 @@ ghost use Rattle.cic_terms.specs.Tree.{Tree, rel};
 ghost use Rattle.gal_print.specs.Printing.{id_text, Uses, IsProduct, HasText, Prints, PrintsLeft};
 ghost use Rattle.gal_print.specs.Appending.{Appends};
 
-use cic_terms::{GlobalId, NoMemory, Sort, Term};
+use cic_names::{GlobalId, NoMemory, Sort};
+use cic_terms::Term;
 
 /// Adds a part of a text.
 fn push_part(text: &mut String, part: &str) -> Result<(), NoMemory>

@@ -3,7 +3,7 @@
 #![tactic(auto)]
 
 use anyhow::bail;
-use cic_terms::{Constraint, Level, LevelName, Name, NoMemory, Part};
+use cic_names::{Constraint, Level, LevelName, Name, NoMemory, Part};
 use std::alloc::Global;
 use std::env;
 use univ_graph::{Graph, GraphFault, Tag};

@@ -6,9 +6,8 @@ ghost use Rattle.std.specs.Prelude.{◌≤◌};
 #[cfg(test)]
 mod tests;
 
-use cic_terms::{
-    GlobalId, Name, Term, TermFault, copy, depth, lift_shared, mentions, same, subst_shared,
-};
+use cic_names::{GlobalId, Name};
+use cic_terms::{Term, TermFault, copy, depth, lift_shared, mentions, same, subst_shared};
 use std::alloc::Global;
 use std::rc::Rc;
 

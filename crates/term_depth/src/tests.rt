@@ -2,9 +2,9 @@
 ghost use Rattle.std.specs.Prelude.{◌<◌};
 
 use crate::node;
+use cic_names::{Constraint, Constraints, GlobalId, Level, LevelName, Name, NameFault, Part};
 use cic_terms::{
-    Branch, Branches, Constraint, Constraints, FixBodies, FixBody, GlobalId, Level, LevelName,
-    Name, NameFault, Part, Term, TermFault, Terms, lift, mentions, same, subst,
+    Branch, Branches, FixBodies, FixBody, Term, TermFault, Terms, lift, mentions, same, subst,
 };
 use std::alloc::Global;
 use std::rc::Rc;

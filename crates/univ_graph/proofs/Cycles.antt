@@ -1,7 +1,7 @@
 -- No numbering meets a cycle: along a chain numbers do not fall, and past a strict constraint they rise.
 use Rattle.std.proofs.Common.{◌≡◌, ℕ, zero, suc, ◌<◌, ◌≤◌, Bool, true, false, List, [], ◌∷◌, length, Contains, slice_index_or, subst, ap, refl, arith}
-use Rattle.cic_terms.specs.declared.level.Level.{Level}
-use Rattle.cic_terms.specs.declared.constraint.Constraint.{Constraint}
+use Rattle.cic_names.specs.declared.level.Level.{Level}
+use Rattle.cic_names.specs.declared.constraint.Constraint.{Constraint}
 use Rattle.cic_rules.specs.Numbering.{Numbering, level_number, MeetsAt, Meets, MeetsAll, Consistent, Chain, IsCycle}
 use Rattle.univ_graph.specs.Numbers.{IsWithin}
 

@@ -1,7 +1,7 @@
 -- The number of a level in what is left of a list of kept numbers.
 use Rattle.std.proofs.Common.{◌≡◌, ℕ, ◌+◌, ◌<◌, List, ◌∷◌, length, get_or, drop, ap, ◌∙◌, add-one, drop-cons}
-use Rattle.cic_terms.specs.declared.level.LevelName.{LevelName}
-use Rattle.cic_terms.specs.declared.level.Level.TheVariants.{Named}
+use Rattle.cic_names.specs.declared.level.LevelName.{LevelName}
+use Rattle.cic_names.specs.declared.level.Level.TheVariants.{Named}
 use Rattle.cic_rules.specs.Numbering.{level_number}
 use Rattle.univ_graph.specs.declared.numbers.LevelNumber.{LevelNumber}
 use Rattle.univ_graph.specs.Numbers.{numbering}

@@ -6,7 +6,7 @@ use Rattle.std.proofs.lemmas.Cmp.{ranked}
 use Rattle.std.specs.Ordering.{nat_cmp, ordering_then, MatchOrdering}
 use Rattle.std.specs.declared.cmp.Ordering.{Ordering}
 use Rattle.std.specs.declared.cmp.Ordering.TheVariants.{Less, Equal, Greater}
-use Rattle.cic_terms.specs.Orders.{byte_order}
+use Rattle.cic_names.specs.Orders.{byte_order}
 use Rattle.cic_rules.specs.Constraints.{Comparison, below, equal, above, compare_keys, name_key}
 
 abbrev pub as_comparison : Ordering → Comparison

@@ -4,11 +4,11 @@ use Rattle.std.proofs.Common.{◌≡◌, ◌∙◌, ◌⊎◌, inl, inr, ℕ, ze
 use Rattle.std.specs.Prelude.{Option, Some, slice_get}
 use Rattle.std.specs.Cmp.Lexicographic.{pointwise, bytes_decides}
 use Rattle.std.specs.Cmp.{first_so, second_so}
-use Rattle.cic_terms.specs.declared.level.Part.{Part}
-use Rattle.cic_terms.specs.declared.level.Part.TheVariants.{Declared, Visible, Proof}
-use Rattle.cic_terms.specs.declared.level.LevelName.{LevelName}
-use Rattle.cic_terms.specs.contracts.level.LevelNamePartialEq.TheImpl as derived
-use Rattle.cic_terms.specs.contracts.level.PartPartialEq.TheImpl as derived_part
+use Rattle.cic_names.specs.declared.level.Part.{Part}
+use Rattle.cic_names.specs.declared.level.Part.TheVariants.{Declared, Visible, Proof}
+use Rattle.cic_names.specs.declared.level.LevelName.{LevelName}
+use Rattle.cic_names.specs.contracts.level.LevelNamePartialEq.TheImpl as derived
+use Rattle.cic_names.specs.contracts.level.PartPartialEq.TheImpl as derived_part
 use Rattle.univ_graph.specs.Places.{IsAbsent}
 use Rattle.univ_graph.proofs.Sameness.{number_same, number_self, and_true, name_parts}
 

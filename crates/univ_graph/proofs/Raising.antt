@@ -2,13 +2,13 @@
 -- So a graph has new numbers for its levels where no strict way leads back to the new constraint.
 use Rattle.std.proofs.Common.{◌≡◌, ◌∙◌, ◌<◌, ◌≤◌, ◌+◌, ℕ, zero, suc, List, [], ◌∷◌, length, Bool, true, false, refl, ap, sym, subst, arith}
 use Rattle.std.specs.Prelude.{Some, slice_get, ◌||◌}
-use Rattle.cic_terms.specs.declared.level.LevelName.{LevelName}
+use Rattle.cic_names.specs.declared.level.LevelName.{LevelName}
 use Rattle.cic_rules.specs.Numbering.{MeetsAt}
 use Rattle.univ_graph.specs.declared.board.Row.{Row}
 use Rattle.univ_graph.specs.declared.board.Board.{Board}
 use Rattle.univ_graph.specs.declared.spread.Step.{Step}
-use Rattle.cic_terms.specs.declared.level.Level.{Level}
-use Rattle.cic_terms.specs.declared.level.Level.TheVariants.{Named}
+use Rattle.cic_names.specs.declared.level.Level.{Level}
+use Rattle.cic_names.specs.declared.level.Level.TheVariants.{Named}
 use Rattle.std.specs.Option.{option_map}
 use Rattle.std.proofs.lemmas.Option.{slice_get_within}
 use Rattle.univ_graph.specs.Places.{level_at}

@@ -2,10 +2,10 @@
 use Rattle.std.proofs.Common.{◌≡◌, ℕ, inl, inr, ◌⊎◌, Bool, true, false, nat_eq, List, [], ◌∷◌, refl, arith, subst}
 use Rattle.std.specs.Prelude.{◌&&◌}
 use Rattle.std.proofs.lemmas.Grind.{common_steps}
-use Rattle.cic_terms.specs.declared.level.Part.{Part}
-use Rattle.cic_terms.specs.declared.level.Part.TheVariants.{Declared, Visible, Proof}
-use Rattle.cic_terms.specs.declared.level.LevelName.{LevelName}
-use Rattle.cic_terms.specs.declared.level.Level.TheVariants.{Named}
+use Rattle.cic_names.specs.declared.level.Part.{Part}
+use Rattle.cic_names.specs.declared.level.Part.TheVariants.{Declared, Visible, Proof}
+use Rattle.cic_names.specs.declared.level.LevelName.{LevelName}
+use Rattle.cic_names.specs.declared.level.Level.TheVariants.{Named}
 use Rattle.cic_rules.specs.Sameness.{same_list, same_part, same_level_name}
 use Rattle.cic_rules.specs.Numbering.{Numbered, Numbering, level_number}
 

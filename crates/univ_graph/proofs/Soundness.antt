@@ -5,9 +5,9 @@ use Rattle.std.specs.Prelude.{Some, slice_get, slice_set, Contains, Result, Ok, 
 use Rattle.std.specs.Option.{option_map}
 use Rattle.std.specs.Global.{Vec}
 use Rattle.std.proofs.lemmas.List.Elements.{Contains-append_left}
-use Rattle.cic_terms.specs.declared.level.LevelName.{LevelName}
-use Rattle.cic_terms.specs.declared.level.Level.{Level}
-use Rattle.cic_terms.specs.declared.level.Level.TheVariants.{Named}
+use Rattle.cic_names.specs.declared.level.LevelName.{LevelName}
+use Rattle.cic_names.specs.declared.level.Level.{Level}
+use Rattle.cic_names.specs.declared.level.Level.TheVariants.{Named}
 use Rattle.cic_rules.specs.Numbering.{MeetsAt}
 use Rattle.univ_graph.specs.declared.board.Row.{Row}
 use Rattle.univ_graph.specs.declared.board.Board.{Board}

@@ -1,8 +1,8 @@
 -- Chains that are parted and joined, and lists of tagged constraints.
 use Rattle.std.proofs.Common.{◌≡◌, ℕ, zero, suc, ◌+◌, ◌<◌, ◌⊎◌, inl, inr, Bool, true, false, List, [], ◌∷◌, ◌++◌, length, Contains, slice_index_or, get_or, take, drop, ◌≤◌, refl, sym, ap, ◌∙◌, subst, arith, add-one, drop-cons}
 use Rattle.std.specs.Prelude.{◌||◌}
-use Rattle.cic_terms.specs.declared.level.Level.{Level}
-use Rattle.cic_terms.specs.declared.constraint.Constraint.{Constraint}
+use Rattle.cic_names.specs.declared.level.Level.{Level}
+use Rattle.cic_names.specs.declared.constraint.Constraint.{Constraint}
 use Rattle.cic_rules.specs.Constraints.{level_key, below, compare_keys}
 use Rattle.cic_rules.specs.Numbering.{Chain, LeftOfNone, DistinctLefts, NoneBelow, IsCycle}
 use Rattle.univ_graph.specs.declared.cycle.Tagged.{Tagged}

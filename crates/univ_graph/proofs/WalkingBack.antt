@@ -5,9 +5,9 @@ use Rattle.std.specs.Prelude.{Some, slice_get, ◌||◌, Contains, Result, Ok, E
 use Rattle.std.proofs.lemmas.List.{reverse-append}
 use Rattle.std.proofs.lemmas.Option.{slice_get_within}
 use Rattle.std.proofs.lemmas.List.Elements.{Contains-append_left, Contains-append_right, Contains-append_cases}
-use Rattle.cic_terms.specs.declared.level.LevelName.{LevelName}
-use Rattle.cic_terms.specs.declared.level.Level.{Level}
-use Rattle.cic_terms.specs.declared.level.Level.TheVariants.{Set, Named}
+use Rattle.cic_names.specs.declared.level.LevelName.{LevelName}
+use Rattle.cic_names.specs.declared.level.Level.{Level}
+use Rattle.cic_names.specs.declared.level.Level.TheVariants.{Set, Named}
 use Rattle.univ_graph.specs.declared.cycle.Tag.TheVariants.{Levels}
 use Rattle.cic_rules.specs.Numbering.{Chain}
 use Rattle.univ_graph.specs.declared.cycle.Tagged.{Tagged}

@@ -2,10 +2,10 @@
 -- The public contract on constraints rests on these.
 use Rattle.std.proofs.Common.{◌≡◌, ◌∙◌, ◌⊎◌, inl, inr, ◌<◌, ◌≤◌, ◌+◌, ◌^◌, ℕ, zero, suc, List, [], ◌∷◌, ◌++◌, length, true, refl, ap, sym, subst, arith}
 use Rattle.std.specs.Prelude.{Some, Contains, slice_index_or, Result, Ok, Err, OnOk, OnErr, IfErr}
-use Rattle.cic_terms.specs.declared.level.LevelName.{LevelName}
-use Rattle.cic_terms.specs.declared.level.Level.{Level}
-use Rattle.cic_terms.specs.declared.level.Level.TheVariants.{Set, Named}
-use Rattle.cic_terms.specs.declared.constraint.Constraint.{Constraint}
+use Rattle.cic_names.specs.declared.level.LevelName.{LevelName}
+use Rattle.cic_names.specs.declared.level.Level.{Level}
+use Rattle.cic_names.specs.declared.level.Level.TheVariants.{Set, Named}
+use Rattle.cic_names.specs.declared.constraint.Constraint.{Constraint}
 use Rattle.cic_rules.specs.Sameness.{same_level_name}
 use Rattle.cic_rules.specs.Numbering.{Numbering, level_number, IsNumbering, Meets, MeetsAll, Consistent, IsCycle}
 use Rattle.univ_graph.specs.declared.cycle.Tagged.{Tagged}

@@ -1,9 +1,9 @@
 -- What holds of the parts of a graph: places of levels, numbers at places, rows of constraints between places.
 use Rattle.std.specs.Prelude.{◌≡◌, ℕ, zero, suc, ◌+◌, ◌^◌, ◌≤◌, ◌<◌, List, [], ◌∷◌, length, get_or, Contains, Some, slice_get, Bool, true, false, ◌||◌, max}
 use Rattle.std.specs.Global.{Vec}
-use Rattle.cic_terms.specs.declared.level.LevelName.{LevelName}
+use Rattle.cic_names.specs.declared.level.LevelName.{LevelName}
 use Rattle.cic_rules.specs.Numbering.{MeetsAt}
-use Rattle.cic_terms.specs.declared.level.Level.{Level}
+use Rattle.cic_names.specs.declared.level.Level.{Level}
 use Rattle.cic_rules.specs.Numbering.{IsCycle}
 use Rattle.univ_graph.specs.declared.cycle.Tagged.{Tagged}
 use Rattle.univ_graph.specs.declared.fault.GraphFault.{GraphFault}

@@ -1,10 +1,10 @@
 -- What a universe graph keeps, and what it answers for one more constraint.
 use Rattle.std.specs.Prelude.{◌≡◌, ◌⊎◌, ℕ, ◌+◌, ◌^◌, ◌<◌, ◌≤◌, List, [], ◌∷◌, ◌++◌, length, Contains, true, if◌then◌else◌, Result, Ok, Err}
-use Rattle.cic_terms.specs.declared.level.LevelName.{LevelName}
-use Rattle.cic_terms.specs.declared.level.Level.{Level}
-use Rattle.cic_terms.specs.declared.level.Level.TheVariants.{Set, Named}
-use Rattle.cic_terms.specs.declared.constraint.Constraint.{Constraint}
-use Rattle.cic_terms.specs.Orders.{insert_constraint}
+use Rattle.cic_names.specs.declared.level.LevelName.{LevelName}
+use Rattle.cic_names.specs.declared.level.Level.{Level}
+use Rattle.cic_names.specs.declared.level.Level.TheVariants.{Set, Named}
+use Rattle.cic_names.specs.declared.constraint.Constraint.{Constraint}
+use Rattle.cic_names.specs.Orders.{insert_constraint}
 use Rattle.cic_rules.specs.Sameness.{same_level_name}
 use Rattle.cic_rules.specs.Numbering.{Numbering, Consistent, IsNumbering, MeetsAll, IsCycle}
 use Rattle.univ_graph.specs.declared.cycle.Tagged.{Tagged}

@@ -1,6 +1,6 @@
 -- What kept numbers of levels stand for, and the constraints of tagged ones.
 use Rattle.std.specs.Prelude.{List, [], ◌∷◌, Contains}
-use Rattle.cic_terms.specs.declared.constraint.Constraint.{Constraint}
+use Rattle.cic_names.specs.declared.constraint.Constraint.{Constraint}
 use Rattle.cic_rules.specs.Numbering.{Numbering}
 use Rattle.univ_graph.specs.declared.numbers.LevelNumber.{LevelNumber}
 use Rattle.univ_graph.specs.declared.cycle.Tagged.{Tagged}

@@ -1,9 +1,9 @@
 -- Levels by their places: Set has place 0, and the first named level place 1.
 use Rattle.std.specs.Prelude.{◌≡◌, ℕ, zero, suc, List, [], ◌∷◌, ◌++◌, Option, Some, None, slice_get}
 use Rattle.std.specs.Option.{option_map}
-use Rattle.cic_terms.specs.declared.level.LevelName.{LevelName}
-use Rattle.cic_terms.specs.declared.level.Level.{Level}
-use Rattle.cic_terms.specs.declared.level.Level.TheVariants.{Set, Named}
+use Rattle.cic_names.specs.declared.level.LevelName.{LevelName}
+use Rattle.cic_names.specs.declared.level.Level.{Level}
+use Rattle.cic_names.specs.declared.level.Level.TheVariants.{Set, Named}
 use Rattle.cic_rules.specs.Numbering.{Numbering}
 use Rattle.univ_graph.specs.declared.cycle.Tagged.{Tagged}
 

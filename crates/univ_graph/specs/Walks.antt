@@ -1,7 +1,7 @@
 -- Walks along tagged constraints.
 use Rattle.std.specs.Prelude.{◌≡◌, List, [], ◌∷◌, Contains, Bool, true}
 use Rattle.std.specs.List.{list_any}
-use Rattle.cic_terms.specs.declared.level.Level.{Level}
+use Rattle.cic_names.specs.declared.level.Level.{Level}
 use Rattle.cic_rules.specs.Numbering.{Chain, DistinctLefts}
 use Rattle.univ_graph.specs.declared.cycle.Tagged.{Tagged}
 use Rattle.univ_graph.specs.Numbers.{constraints}

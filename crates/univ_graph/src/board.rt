@@ -1,13 +1,13 @@
 //! The parts of a graph: the names of its levels, their numbers, and constraints as rows between places. Set has place 0.
 ghost use Rattle.std.specs.Prelude.{◌≡◌, ◌∷◌, ◌++◌, [], ◌≤◌, ◌<◌, length, Some, MatchOption, OnOk, OnErr, IfOk, slice_get};
-ghost use Rattle.cic_terms.specs.declared.level.Level.{Level};
+ghost use Rattle.cic_names.specs.declared.level.Level.{Level};
 ghost use Rattle.univ_graph.specs.Places.{IsAbsent, IsAbsentLevel, IsFront, level_at};
 ghost use Rattle.univ_graph.specs.Kept.{with_name, with_level};
 ghost use Rattle.univ_graph.specs.Boards.{IsSound, AreListed};
 
 use crate::cycle::Tagged;
 use crate::names::Names;
-use cic_terms::{Level, LevelName, NoMemory};
+use cic_names::{Level, LevelName, NoMemory};
 use std::alloc::Global;
 
 /// A constraint and the places of its ends.

@@ -3,15 +3,15 @@ ghost use Rattle.std.specs.Prelude.{◌≡◌, ℕ, ◌<◌, ◌≤◌, ◌++◌
 ghost use Rattle.univ_graph.specs.Boards.{IsSound, IsSpread, IsTied, IsConflictWalk, IsConflictAmong, tagged};
 ghost use Rattle.univ_graph.specs.Places.{level_at};
 ghost use Rattle.univ_graph.specs.declared.spread.Step.{Step};
-ghost use Rattle.cic_terms.specs.declared.level.Level.{Level};
-ghost use Rattle.cic_terms.specs.declared.level.Level.TheVariants as L;
+ghost use Rattle.cic_names.specs.declared.level.Level.{Level};
+ghost use Rattle.cic_names.specs.declared.level.Level.TheVariants as L;
 ghost use Rattle.univ_graph.specs.declared.cycle.Tag.TheVariants as G;
 
 use crate::board::Board;
 use crate::cycle::{Cycle, Tag, Tagged};
 use crate::fault::GraphFault;
 use crate::spread::{Spread, Step};
-use cic_terms::{Constraint, Level, LevelName, NoMemory};
+use cic_names::{Constraint, Level, LevelName, NoMemory};
 use std::alloc::Global;
 
 /// The first step that reaches the place past a strict constraint.

@@ -1,7 +1,7 @@
 //! Constraints with the reason why they are there, and cycles of them.
 ghost use Rattle.std.specs.Prelude.{◌≡◌, IfOk};
 
-use cic_terms::{Constraint, LibName, NoMemory};
+use cic_names::{Constraint, LibName, NoMemory};
 use std::marker::Model;
 
 /// Why a constraint has to hold.

@@ -4,7 +4,7 @@ use crate::cycle::{Tag, Tagged};
 use crate::fault::GraphFault;
 use crate::names::Names;
 use crate::numbers::LevelNumber;
-use cic_terms::{Constraint, Constraints, Level, NoMemory};
+use cic_names::{Constraint, Constraints, Level, NoMemory};
 use std::alloc::Global;
 use std::marker::Model;
 

@@ -1,10 +1,10 @@
 //! The order of levels by their keys.
 ghost use Rattle.std.specs.Prelude.{◌≡◌, ◌↔◌, IsTrue};
 ghost use Rattle.cic_rules.specs.Constraints.{level_key, part_key, below, compare_keys};
-ghost use Rattle.cic_terms.specs.Orders.{byte_order};
+ghost use Rattle.cic_names.specs.Orders.{byte_order};
 ghost use Rattle.std.specs.Ordering.{nat_cmp};
 
-use cic_terms::{Level, LevelName, Part, name_order};
+use cic_names::{Level, LevelName, Part, name_order};
 use std::cmp::Ordering;
 
 fn part_key(part: Part) -> u8

@@ -1,6 +1,6 @@
 //! Laws on numberings and cycles, each as the contract of a function that does nothing.
 ghost use Rattle.std.specs.Prelude.{List};
-ghost use Rattle.cic_terms.specs.declared.constraint.Constraint.{Constraint};
+ghost use Rattle.cic_names.specs.declared.constraint.Constraint.{Constraint};
 ghost use Rattle.cic_rules.specs.Numbering.{Consistent, IsCycle};
 ghost use Rattle.univ_graph.specs.Numbers.{IsWithin};
 

@@ -1,9 +1,9 @@
 //! Level names by their places, with a table of the places.
 ghost use Rattle.std.specs.Prelude.{◌≡◌, ℕ, Some, slice_get};
 ghost use Rattle.std.specs.HashMap.{get};
-ghost use Rattle.cic_terms.specs.declared.level.LevelName.{LevelName};
+ghost use Rattle.cic_names.specs.declared.level.LevelName.{LevelName};
 
-use cic_terms::{LevelName, NoMemory};
+use cic_names::{LevelName, NoMemory};
 use std::alloc::Global;
 use std::collections::HashMap;
 use std::marker::Model;
@@ -18,7 +18,7 @@ pub struct Names {
 
 impl Model for Names {
     ghost use Rattle.std.specs.Prelude.{List};
-    ghost use Rattle.cic_terms.specs.declared.level.LevelName.{LevelName};
+    ghost use Rattle.cic_names.specs.declared.level.LevelName.{LevelName};
 
     ghost Value = { List LevelName };
 

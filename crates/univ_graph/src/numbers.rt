@@ -3,7 +3,7 @@ ghost use Rattle.std.specs.Prelude.{◌≡◌, ◌↔◌, IsTrue};
 ghost use Rattle.cic_rules.specs.Numbering as rules;
 ghost use Rattle.univ_graph.specs.Numbers.{numbering};
 
-use cic_terms::{Constraint, Level, LevelName};
+use cic_names::{Constraint, Level, LevelName};
 
 /// A named level and its number.
 #[derive(Debug, Drop)]

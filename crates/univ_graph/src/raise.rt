@@ -2,7 +2,7 @@
 ghost use Rattle.std.specs.Prelude.{◌≡◌, ℕ, ◌+◌, ◌^◌, ◌<◌, ◌≤◌, length, IfOk};
 ghost use Rattle.univ_graph.specs.Boards.{at, raised, all_raised, number_bound, AreInOrder};
 
-use cic_terms::NoMemory;
+use cic_names::NoMemory;
 use std::alloc::Global;
 
 /// The greatest number that is kept.

@@ -1,7 +1,7 @@
 use crate::cycle::Tag;
 use crate::fault::GraphFault;
 use crate::graph::Graph;
-use cic_terms::{Constraint, Level, LevelName, Name, NameFault, Part};
+use cic_names::{Constraint, Level, LevelName, Name, NameFault, Part};
 use std::alloc::Global;
 use std::test::Fail;
 

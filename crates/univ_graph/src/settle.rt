@@ -1,7 +1,7 @@
 //! How a constraint is taken, between places that are there: with the numbers as they are, with raised ones, or not at all.
 ghost use Rattle.std.specs.Prelude.{◌≡◌, ℕ, ◌<◌, ◌≤◌, ◌++◌, ◌∷◌, [], length, true, IfOk, IfErr, OnOk, OnErr, Some, take, List, IsTrue, ◌↔◌, ◌+◌, ◌^◌};
 ghost use Rattle.cic_rules.specs.Numbering.{MeetsAt};
-ghost use Rattle.cic_terms.specs.declared.level.Level.{Level};
+ghost use Rattle.cic_names.specs.declared.level.Level.{Level};
 ghost use Rattle.univ_graph.specs.Kept.{AreStepsAmong};
 ghost use Rattle.univ_graph.specs.Walks.{IsClosedAt, has_strict};
 ghost use Rattle.univ_graph.specs.declared.cycle.Tagged.{Tagged};
@@ -13,7 +13,7 @@ use crate::conflict::{strict_step, walk_at_set};
 use crate::cycle::{Cycle, Tagged};
 use crate::fault::GraphFault;
 use crate::raise::{fit, raise};
-use cic_terms::{Level, NoMemory};
+use cic_names::{Level, NoMemory};
 use std::alloc::Global;
 
 fn meets_at(strict: bool, left: u32, right: u32) -> bool

@@ -6,7 +6,7 @@ ghost use Rattle.univ_graph.specs.declared.spread.Step.{Step};
 ghost use Rattle.univ_graph.specs.Places.{IsFront};
 
 use crate::board::Board;
-use cic_terms::NoMemory;
+use cic_names::NoMemory;
 use std::alloc::Global;
 
 /// That a place is reached: along a row, behind an earlier step.

@@ -7,7 +7,7 @@ ghost use Rattle.univ_graph.specs.Boards.{IsSound, IsConflictAmong, kept, tagged
 use crate::board::Board;
 use crate::cycle::Tagged;
 use crate::fault::GraphFault;
-use cic_terms::Constraint;
+use cic_names::Constraint;
 use std::alloc::Global;
 
 fn count_one(place: Option<usize>) -> u32

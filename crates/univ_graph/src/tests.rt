@@ -1,7 +1,7 @@
 use crate::cycle::{Cycle, Tag, Tagged};
 use crate::keys::is_below;
 use crate::numbers::{LevelNumber, level_number, meets};
-use cic_terms::{Constraint, Level, LevelName, Name, NameFault, Part};
+use cic_names::{Constraint, Level, LevelName, Name, NameFault, Part};
 use std::alloc::Global;
 use std::test::Fail;
 

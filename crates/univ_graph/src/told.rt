@@ -7,7 +7,7 @@ ghost use Rattle.univ_graph.specs.Boards.{tagged};
 
 use crate::board::Board;
 use crate::numbers::LevelNumber;
-use cic_terms::{Constraints, NoMemory};
+use cic_names::{Constraints, NoMemory};
 use std::alloc::Global;
 
 impl Board {

@@ -1,14 +1,14 @@
 //! From a walk that comes back to a cycle: it leaves out what it need not have, and begins at its least level.
 ghost use Rattle.std.specs.Prelude.{◌≡◌, ℕ, ◌++◌, ◌<◌, ◌≤◌, true, take, drop, length, IfOk, MatchOption, slice_index_or};
 ghost use Rattle.cic_rules.specs.Numbering.{LeftOfNone, DistinctLefts, NoneBelow, IsCycle};
-ghost use Rattle.cic_terms.specs.declared.level.Level.{Level};
+ghost use Rattle.cic_names.specs.declared.level.Level.{Level};
 ghost use Rattle.univ_graph.specs.declared.cycle.Tagged.{Tagged};
 ghost use Rattle.univ_graph.specs.Numbers.{constraints};
 ghost use Rattle.univ_graph.specs.Walks.{has_strict, IsLoopOf, IsClosedAt, IsPartOf, StartsAt};
 
 use crate::cycle::{Cycle, Tagged};
 use crate::keys::is_below;
-use cic_terms::{Level, NoMemory};
+use cic_names::{Level, NoMemory};
 use std::alloc::Global;
 
 fn has_strict(steps: &[Tagged]) -> bool

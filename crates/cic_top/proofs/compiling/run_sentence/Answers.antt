@@ -4,7 +4,7 @@ use Rattle.std.specs.Prelude.{Err}
 use Rattle.std.proofs.lemmas.Result.{err_from_is_err_and}
 use Rattle.cic_env.specs.Environments.{items}
 use Rattle.cic_terms.specs.Denotes.{tree}
-use Rattle.cic_terms.specs.declared.name.GlobalId.{GlobalId}
+use Rattle.cic_names.specs.declared.name.GlobalId.{GlobalId}
 use Rattle.gal_elab.specs.Scoping.{Declares}
 use Rattle.gal_parser.specs.Grammar.{Sentence}
 use Rattle.gal_parser.specs.Views.{raw_term}

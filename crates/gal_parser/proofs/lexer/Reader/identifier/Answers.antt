@@ -1,6 +1,6 @@
 -- The word that stands there is the only one, and it is no identifier or too long.
 use Rattle.std.proofs.Common.{◌≤◌, length, subst, arith}
-use Rattle.cic_terms.specs.Identifier.{IsIdentifier}
+use Rattle.cic_names.specs.Identifier.{IsIdentifier}
 use Rattle.gal_parser.proofs.TokenLaws.{one_word}
 use Rattle.gal_parser.proofs.lexer.Reader.identifier.Goals as goal
 

@@ -4,7 +4,7 @@ use Rattle.std.specs.Prelude.{slice_get, Some}
 use Rattle.univ_graph.specs.declared.spread.Step.{Step}
 use Rattle.univ_graph.specs.Kept.{AreStepsAmong}
 use Rattle.univ_graph.specs.Boards.{at, all_raised, least_of, tagged, IsConflictWalk, AreInOrder}
-use Rattle.cic_terms.specs.declared.level.Level.TheVariants as L
+use Rattle.cic_names.specs.declared.level.Level.TheVariants as L
 use Rattle.univ_graph.proofs.Places.{at_read}
 use Rattle.univ_graph.proofs.Raising.{raised_good, above_set, all_raised_length, place_within}
 use Rattle.univ_graph.proofs.WalkingBack.{if_ok_map, steps_of_last}

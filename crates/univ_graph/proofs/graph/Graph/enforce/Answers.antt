@@ -1,6 +1,6 @@
 -- What the parts answer is what a graph is to answer.
 use Rattle.std.proofs.Common.{◌≡◌, ◌∙◌, ◌≤◌, ◌+◌, ◌++◌, ◌∷◌, [], refl, sym, subst, ap, length}
-use Rattle.cic_terms.specs.declared.constraint.Constraint.{Constraint}
+use Rattle.cic_names.specs.declared.constraint.Constraint.{Constraint}
 use Rattle.univ_graph.specs.declared.cycle.Tagged.{Tagged}
 use Rattle.univ_graph.specs.Numbers.{constraints}
 use Rattle.univ_graph.specs.Kept.{Answers, with_ends, level_count, level_limit}

@@ -1,0 +1,12 @@
+//! Names, universe levels and sorts, and constraints between levels, with the orders of their byte strings. Copies share the text of names.
+#![tactic(auto)]
+
+mod constraint;
+mod level;
+mod name;
+mod order;
+
+pub use constraint::{Constraint, Constraints};
+pub use level::{Atom, Expr, Level, LevelName, Part, Sort};
+pub use name::{GlobalId, LibName, Name, NameFault, NoMemory};
+pub use order::{constraint_order, level_order, name_order};
