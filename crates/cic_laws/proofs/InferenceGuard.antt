@@ -27,13 +27,13 @@ HasItsParts (FixF which shapes) ks = part_count shapes ≡ length (trees_of ks)
 HasItsParts f ks = Unit {0}
 
 abbrev mutual
-  pub WellShaped : Tree → Type 0
-  WellShaped (rel x) = Unit {0}
-  WellShaped (node f ks) = HasItsParts f ks × PartsWellShaped ks
+  pub HasAllParts : Tree → Type 0
+  HasAllParts (rel x) = Unit {0}
+  HasAllParts (node f ks) = HasItsParts f ks × PartsHaveAllParts ks
 
-  pub PartsWellShaped : Children → Type 0
-  PartsWellShaped no_child = Unit {0}
-  PartsWellShaped (child b t ks) = WellShaped t × PartsWellShaped ks
+  pub PartsHaveAllParts : Children → Type 0
+  PartsHaveAllParts no_child = Unit {0}
+  PartsHaveAllParts (child b t ks) = HasAllParts t × PartsHaveAllParts ks
 
 -- Of two walks over the parts of a Fix, one goes over each part.
 abbrev Complement : List Bool → List Bool → Type 0
@@ -177,7 +177,7 @@ module _ (recursive : GlobalId → ℕ → Option (List Mark)) (places : List �
   fine_matched marks id n p v branches hp hv h' h'' false k call last e = fine_parts (fine_part (fine_motive marks n p hp) (fine_part hv (h'' call last e)))
 
   mutual
-    walk_fine : (t : Tree) (marks : Marks) (us : List Tree) (call last : ℕ) → WellShaped t → walk recursive places marks us t call ≡ passed last → AllFine recursive places marks us →
+    walk_fine : (t : Tree) (marks : Marks) (us : List Tree) (call last : ℕ) → HasAllParts t → walk recursive places marks us t call ≡ passed last → AllFine recursive places marks us →
         Fine recursive places marks (apply t us)
     walk_fine (rel x) marks us call last s e k = occurrence_fine marks x us (marks x) call last refl e k
     walk_fine (app f u) marks us call last s e k =
@@ -196,26 +196,26 @@ module _ (recursive : GlobalId → ℕ → Option (List Mark)) (places : List �
         (fine_parts (chosen_fine parts marks (body_flags recursive places true false shapes) (body_flags recursive places false true shapes) call p.0 p.0 last s.1 (flag_count true false shapes ∙ s.0) (flags_complement shapes) p.1 p.2)) k
     walk_fine (node f ks) marks us call last s e k = fine_applied marks us (node f ks) (fine_parts (children_fine ks marks call last s.1 e)) k
 
-    children_fine : (ks : Children) (marks : Marks) (call last : ℕ) → PartsWellShaped ks → walk_children recursive places marks ks call ≡ passed last → FineParts recursive places marks ks
+    children_fine : (ks : Children) (marks : Marks) (call last : ℕ) → PartsHaveAllParts ks → walk_children recursive places marks ks call ≡ passed last → FineParts recursive places marks ks
     children_fine no_child marks call last s e = no_fine_part
     children_fine (child b t ks) marks call last s e =
         let p = passed_both (walk recursive places (under_plain (over b 0) marks) [] t call) (walk_children recursive places marks ks) last e in
         fine_part (walk_fine t (under_plain (over b 0) marks) [] call p.0 s.0 p.1 none_fine) (children_fine ks marks p.0 last s.1 p.2)
 
-    branches_fine : (ks : Children) (marks : Marks) (id : GlobalId) (place : ℕ) → PartsWellShaped ks → (call last : ℕ) → walk_branches recursive places marks true id place ks call ≡ passed last → FineBranches recursive places marks id place ks
+    branches_fine : (ks : Children) (marks : Marks) (id : GlobalId) (place : ℕ) → PartsHaveAllParts ks → (call last : ℕ) → walk_branches recursive places marks true id place ks call ≡ passed last → FineBranches recursive places marks id place ks
     branches_fine no_child marks id place s call last e = no_fine_branch
     branches_fine (child b t ks) marks id place s call last e =
         let ms = marks_or_plain (over b 0) (recursive id place) in
         let p = passed_both (walk recursive places (under_marks ms marks) [] t call) (walk_branches recursive places marks true id (place + 1) ks) last e in
         fine_one_branch (marks_of_branch id place (over b 0) (recursive id place) refl) (walk_fine t (under_marks ms marks) [] call p.0 s.0 p.1 none_fine) (branches_fine ks marks id (place + 1) s.1 p.0 last p.2)
 
-    unknown_branches_fine : (ks : Children) (marks : Marks) (id : GlobalId) (place : ℕ) → PartsWellShaped ks → (call last : ℕ) → walk_branches recursive places marks false id place ks call ≡ passed last → FineParts recursive places marks ks
+    unknown_branches_fine : (ks : Children) (marks : Marks) (id : GlobalId) (place : ℕ) → PartsHaveAllParts ks → (call last : ℕ) → walk_branches recursive places marks false id place ks call ≡ passed last → FineParts recursive places marks ks
     unknown_branches_fine no_child marks id place s call last e = no_fine_part
     unknown_branches_fine (child b t ks) marks id place s call last e =
         let p = passed_both (walk recursive places (under_plain (over b 0) marks) [] t call) (walk_branches recursive places marks false id (place + 1) ks) last e in
         fine_part (walk_fine t (under_plain (over b 0) marks) [] call p.0 s.0 p.1 none_fine) (unknown_branches_fine ks marks id (place + 1) s.1 p.0 last p.2)
 
-    chosen_fine : (ks : Children) (marks : Marks) (flags flags' : List Bool) (call last call' last' : ℕ) → PartsWellShaped ks → length flags ≡ length (trees_of ks) → Complement flags flags' →
+    chosen_fine : (ks : Children) (marks : Marks) (flags flags' : List Bool) (call last call' last' : ℕ) → PartsHaveAllParts ks → length flags ≡ length (trees_of ks) → Complement flags flags' →
         walk_chosen recursive places marks flags ks call ≡ passed last → walk_chosen recursive places marks flags' ks call' ≡ passed last' → FineParts recursive places marks ks
     chosen_fine no_child marks flags flags' call last call' last' s l h e e' = no_fine_part
     chosen_fine (child b t ks) marks [] flags' call last call' last' s l h e e' = absurd (omega (arith, l))
@@ -242,13 +242,13 @@ record Headed (E : Environment) (all : List Function) (f : Function) (h : Tree) 
   is : h ≡ ind id
   fine_body : Fine (recursive_marks E id) (recursive_places all) (body_marks (length all) f) f.body
 
-headed : (E : Environment) (all : List Function) (f : Function) (h : Tree) → WellShaped f.body → walk_fault E (recursive_places all) (length all) f h ≡ None → Headed E all f h
+headed : (E : Environment) (all : List Function) (f : Function) (h : Tree) → HasAllParts f.body → walk_fault E (recursive_places all) (length all) f h ≡ None → Headed E all f h
 headed E all f (ind id) s e =
     let p = not_failed (walk (recursive_marks E id) (recursive_places all) (body_marks (length all) f) [] f.body 0) e in
     record { id = id; is = refl; fine_body = walk_fine (recursive_marks E id) (recursive_places all) f.body (body_marks (length all) f) [] 0 p.0 s p.1 none_fine }
 headed E all f h s e = absurd (grind arith)
 
-guarded_function : (E : Environment) (all : List Function) (f : Function) (o : Option Tree) → element f.domains f.k ≡ o → WellShaped f.body → walk_fault E (recursive_places all) (length all) f (head_of_domain o) ≡ None → GuardedFunction E all f
+guarded_function : (E : Environment) (all : List Function) (f : Function) (o : Option Tree) → element f.domains f.k ≡ o → HasAllParts f.body → walk_fault E (recursive_places all) (length all) f (head_of_domain o) ≡ None → GuardedFunction E all f
 guarded_function E all f None q s e = absurd (grind arith)
 guarded_function E all f (Some a) q s e =
     let h = headed E all f (head_of a) s e in
@@ -263,11 +263,11 @@ pub none_mapped : {A B : Type 0} (f : A → B) (o : Option A) → option_map f o
 none_mapped f None e = refl
 none_mapped f (Some a) e = absurd (grind arith)
 
-each_guarded : (E : Environment) (all fs : List Function) (i : ℕ) → Each (λ f. WellShaped f.body) fs → functions_fault E (recursive_places all) (length all) i fs ≡ None → EachGuarded E all fs
+each_guarded : (E : Environment) (all fs : List Function) (i : ℕ) → Each (λ f. HasAllParts f.body) fs → functions_fault E (recursive_places all) (length all) i fs ≡ None → EachGuarded E all fs
 each_guarded E all [] i s e = tt
 each_guarded E all (f ∷ fs) i s e =
     let p = or_else_none (option_map (λ call. record { f = i; call = call }) (function_fault E (recursive_places all) (length all) f)) _ e in
     (guarded_function E all f (element f.domains f.k) refl s.0 (none_mapped _ _ p.0), each_guarded E all fs (i + 1) s.1 p.1)
 
-pub guard_is_right : (E : Environment) (fs : List Function) → Each (λ f. WellShaped f.body) fs → guard_fault E fs ≡ None → Guarded E fs
+pub guard_is_right : (E : Environment) (fs : List Function) → Each (λ f. HasAllParts f.body) fs → guard_fault E fs ≡ None → Guarded E fs
 guard_is_right E fs s e = each_guarded E fs fs 0 s e

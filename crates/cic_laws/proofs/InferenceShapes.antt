@@ -11,35 +11,35 @@ use Rattle.cic_rules.specs.Guard.{Guarded}
 use Rattle.cic_rules.specs.Typing as T
 use Rattle.cic_rules.specs.Typing.{Typed, Branches, no_branch, branch, AllSorted, none_sorted, more_sorted, AllTyped, none_typed, more_typed}
 use Rattle.cic_counted.specs.GuardTest.{guard_fault}
-use Rattle.cic_laws.proofs.InferenceGuard.{part_count, WellShaped, PartsWellShaped, guard_is_right}
+use Rattle.cic_laws.proofs.InferenceGuard.{part_count, HasAllParts, PartsHaveAllParts, guard_is_right}
 
 -- Arguments, products and abstractions
-head_shaped : (us : List Tree) (f : Tree) → WellShaped (apply f us) → WellShaped f
+head_shaped : (us : List Tree) (f : Tree) → HasAllParts (apply f us) → HasAllParts f
 head_shaped [] f h = h
 head_shaped (u ∷ us) f h = (head_shaped us (app f u) h).1.0
 
-argument_shaped : (before after : List Tree) (f u : Tree) → WellShaped (apply f (before ++ u ∷ after)) → WellShaped u
+argument_shaped : (before after : List Tree) (f u : Tree) → HasAllParts (apply f (before ++ u ∷ after)) → HasAllParts u
 argument_shaped [] after f u h = (head_shaped after (app f u) h).1.1.0
 argument_shaped (v ∷ before) after f u h = argument_shaped before after (app f v) u h
 
-products_shaped : (as_ : List Tree) (t : Tree) → WellShaped (products as_ t) → Each WellShaped as_ × WellShaped t
+products_shaped : (as_ : List Tree) (t : Tree) → HasAllParts (products as_ t) → Each HasAllParts as_ × HasAllParts t
 products_shaped [] t h = (tt, h)
 products_shaped (a ∷ as_) t h = let r = products_shaped as_ t h.1.1.0 in ((h.1.0, r.0), r.1)
 
-abstractions_shaped : (as_ : List Tree) (t : Tree) → WellShaped (abstractions as_ t) → WellShaped t
+abstractions_shaped : (as_ : List Tree) (t : Tree) → HasAllParts (abstractions as_ t) → HasAllParts t
 abstractions_shaped [] t h = h
 abstractions_shaped (a ∷ as_) t h = abstractions_shaped as_ t h.1.1.0
 
 -- The parts of a Fix
-join_shaped : (ks ls : Children) → PartsWellShaped ks → PartsWellShaped ls → PartsWellShaped (join ks ls)
+join_shaped : (ks ls : Children) → PartsHaveAllParts ks → PartsHaveAllParts ls → PartsHaveAllParts (join ks ls)
 join_shaped no_child ls h k = k
 join_shaped (child b t ks) ls h k = (h.0, join_shaped ks ls h.1 k)
 
-domain_parts_shaped : (above : ℕ) (as_ : List Tree) → Each WellShaped as_ → PartsWellShaped (domain_parts above as_)
+domain_parts_shaped : (above : ℕ) (as_ : List Tree) → Each HasAllParts as_ → PartsHaveAllParts (domain_parts above as_)
 domain_parts_shaped above [] h = tt
 domain_parts_shaped above (a ∷ as_) h = (h.0, domain_parts_shaped (above + 1) as_ h.1)
 
-function_parts_shaped : (all : ℕ) (fs : List Function) → Each WellShaped (function_types fs) → Each WellShaped (full_bodies all fs) → PartsWellShaped (function_parts all fs)
+function_parts_shaped : (all : ℕ) (fs : List Function) → Each HasAllParts (function_types fs) → Each HasAllParts (full_bodies all fs) → PartsHaveAllParts (function_parts all fs)
 function_parts_shaped all [] h k = tt
 function_parts_shaped all (f ∷ fs) h k =
     let p = products_shaped f.domains f.codomain h.0 in
@@ -64,43 +64,43 @@ functions_have_their_parts all (f ∷ fs) =
     omega (arith, p, q, r)
 
 fix_shaped : (which : ℕ) (shapes : List Shape) (parts : Children) (fs : List Function) → shapes ≡ function_shapes fs → parts ≡ function_parts (length fs) fs →
-    Each WellShaped (function_types fs) → Each WellShaped (full_bodies (length fs) fs) → WellShaped (fix which shapes parts)
+    Each HasAllParts (function_types fs) → Each HasAllParts (full_bodies (length fs) fs) → HasAllParts (fix which shapes parts)
 fix_shaped which shapes parts fs e f h k = rw (e, f) (functions_have_their_parts (length fs) fs, function_parts_shaped (length fs) fs h k)
 
 module _ (E : Environment) (N : Numbering) where
   mutual
-    pub typed_is_well_shaped : {G : Context} {t a : Tree} → Typed E N G t a → WellShaped t
-    typed_is_well_shaped (T.Typed.sorts p) = (tt, tt)
-    typed_is_well_shaped (T.Typed.variable p e) = tt
-    typed_is_well_shaped (T.Typed.constant p e) = (tt, tt)
-    typed_is_well_shaped (T.Typed.inductive_type p e) = (tt, tt)
-    typed_is_well_shaped (T.Typed.constructor p e) = (tt, tt)
-    typed_is_well_shaped (T.Typed.product p q z) = (tt, (typed_is_well_shaped p, (typed_is_well_shaped q, tt)))
-    typed_is_well_shaped (T.Typed.abstraction p q) = (tt, ((typed_is_well_shaped p).1.0, (typed_is_well_shaped q, tt)))
-    typed_is_well_shaped (T.Typed.application p q e) = (tt, (typed_is_well_shaped p, (typed_is_well_shaped q, tt)))
-    typed_is_well_shaped (T.Typed.local_definition o p q e) = (tt, (typed_is_well_shaped p, (typed_is_well_shaped o, (typed_is_well_shaped q, tt))))
-    typed_is_well_shaped (T.Typed.matching _ _ _ _ _ _ _ _ _ tv _ _ _ tp _ br _) = (tt, (typed_is_well_shaped tp, (typed_is_well_shaped tv, branches_well_shaped br)))
-    typed_is_well_shaped (T.Typed.fixpoint {which = which} {shapes = shapes} {parts = parts} fs es ep at st bt g e) =
-        fix_shaped which shapes parts fs es ep (sorted_well_shaped st) (all_well_shaped bt)
-    typed_is_well_shaped (T.Typed.conversion p q l) = typed_is_well_shaped p
-    typed_is_well_shaped (T.Typed.instance {u = u} id A before after w b z d e p x y) =
-        argument_shaped before after (ind id) u (subst WellShaped e (typed_is_well_shaped p))
+    pub typed_has_all_parts : {G : Context} {t a : Tree} → Typed E N G t a → HasAllParts t
+    typed_has_all_parts (T.Typed.sorts p) = (tt, tt)
+    typed_has_all_parts (T.Typed.variable p e) = tt
+    typed_has_all_parts (T.Typed.constant p e) = (tt, tt)
+    typed_has_all_parts (T.Typed.inductive_type p e) = (tt, tt)
+    typed_has_all_parts (T.Typed.constructor p e) = (tt, tt)
+    typed_has_all_parts (T.Typed.product p q z) = (tt, (typed_has_all_parts p, (typed_has_all_parts q, tt)))
+    typed_has_all_parts (T.Typed.abstraction p q) = (tt, ((typed_has_all_parts p).1.0, (typed_has_all_parts q, tt)))
+    typed_has_all_parts (T.Typed.application p q e) = (tt, (typed_has_all_parts p, (typed_has_all_parts q, tt)))
+    typed_has_all_parts (T.Typed.local_definition o p q e) = (tt, (typed_has_all_parts p, (typed_has_all_parts o, (typed_has_all_parts q, tt))))
+    typed_has_all_parts (T.Typed.matching _ _ _ _ _ _ _ _ _ tv _ _ _ tp _ br _) = (tt, (typed_has_all_parts tp, (typed_has_all_parts tv, branches_have_all_parts br)))
+    typed_has_all_parts (T.Typed.fixpoint {which = which} {shapes = shapes} {parts = parts} fs es ep at st bt g e) =
+        fix_shaped which shapes parts fs es ep (sorted_have_all_parts st) (all_have_all_parts bt)
+    typed_has_all_parts (T.Typed.conversion p q l) = typed_has_all_parts p
+    typed_has_all_parts (T.Typed.instance {u = u} id A before after w b z d e p x y) =
+        argument_shaped before after (ind id) u (subst HasAllParts e (typed_has_all_parts p))
 
-    branches_well_shaped : {G : Context} {id : GlobalId} {parameters : List Tree} {n : ℕ} {p : Tree} {cs : List ConstructorDeclaration} {ks : Children} → Branches E N G id parameters n p cs ks → PartsWellShaped ks
-    branches_well_shaped no_branch = tt
-    branches_well_shaped (branch _ _ _ _ _ _ _ bt br) = (typed_is_well_shaped bt, branches_well_shaped br)
+    branches_have_all_parts : {G : Context} {id : GlobalId} {parameters : List Tree} {n : ℕ} {p : Tree} {cs : List ConstructorDeclaration} {ks : Children} → Branches E N G id parameters n p cs ks → PartsHaveAllParts ks
+    branches_have_all_parts no_branch = tt
+    branches_have_all_parts (branch _ _ _ _ _ _ _ bt br) = (typed_has_all_parts bt, branches_have_all_parts br)
 
-    sorted_well_shaped : {G : Context} {ts : List Tree} → AllSorted E N G ts → Each WellShaped ts
-    sorted_well_shaped none_sorted = tt
-    sorted_well_shaped (more_sorted p q) = (typed_is_well_shaped p, sorted_well_shaped q)
+    sorted_have_all_parts : {G : Context} {ts : List Tree} → AllSorted E N G ts → Each HasAllParts ts
+    sorted_have_all_parts none_sorted = tt
+    sorted_have_all_parts (more_sorted p q) = (typed_has_all_parts p, sorted_have_all_parts q)
 
-    all_well_shaped : {G : Context} {ts us : List Tree} → AllTyped E N G ts us → Each WellShaped ts
-    all_well_shaped none_typed = tt
-    all_well_shaped (more_typed p q) = (typed_is_well_shaped p, all_well_shaped q)
+    all_have_all_parts : {G : Context} {ts us : List Tree} → AllTyped E N G ts us → Each HasAllParts ts
+    all_have_all_parts none_typed = tt
+    all_have_all_parts (more_typed p q) = (typed_has_all_parts p, all_have_all_parts q)
 
-  bodies_are_well_shaped : (all : ℕ) (fs : List Function) → Each WellShaped (full_bodies all fs) → Each (λ f. WellShaped f.body) fs
-  bodies_are_well_shaped all [] h = tt
-  bodies_are_well_shaped all (f ∷ fs) h = (abstractions_shaped (lift_domains 0 all f.domains) f.body h.0, bodies_are_well_shaped all fs h.1)
+  bodies_have_all_parts : (all : ℕ) (fs : List Function) → Each HasAllParts (full_bodies all fs) → Each (λ f. HasAllParts f.body) fs
+  bodies_have_all_parts all [] h = tt
+  bodies_have_all_parts all (f ∷ fs) h = (abstractions_shaped (lift_domains 0 all f.domains) f.body h.0, bodies_have_all_parts all fs h.1)
 
   pub passed_fix_is_guarded : (G : Context) (fs : List Function) (types : List Tree) → AllTyped E N G (full_bodies (length fs) fs) types → guard_fault E fs ≡ None → Guarded E fs
-  passed_fix_is_guarded G fs types h e = guard_is_right E fs (bodies_are_well_shaped (length fs) fs (all_well_shaped h)) e
+  passed_fix_is_guarded G fs types h e = guard_is_right E fs (bodies_have_all_parts (length fs) fs (all_have_all_parts h)) e

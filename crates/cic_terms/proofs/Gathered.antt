@@ -1,11 +1,11 @@
 -- What a list holds that begins with copies of the old items: the same parts as those items.
 -- A change copies the items before its first change with these, and adds each further one.
-use Rattle.std.proofs.Common.{◌≡◌, ℕ, ◌+◌, ◌≤◌, ◌<◌, Option, None, Vec, Result, Ok, Err, IfOk, OnErr, List, [], ◌∷◌, ◌++◌, length, get_or, take, refl, sym, ap, ◌∙◌, arith, add-one}
+use Rattle.std.proofs.Common.{◌≡◌, ℕ, ◌+◌, ◌≤◌, ◌<◌, Option, None, Some, Vec, Result, Ok, Err, IfOk, OnOk, OnErr, List, [], ◌∷◌, ◌++◌, length, get_or, take, refl, sym, ap, ◌∙◌, arith, add-one}
 use Rattle.std.proofs.Math.Seq.{take-suc}
 use Rattle.std.proofs.lemmas.Grind.{common_steps}
 use Rattle.cic_terms.specs.Tree.{Tree, Children, no_child, child, many, join}
-use Rattle.cic_terms.specs.Denotes.{tree, branch_list, term_list, body_list, shape_list, domain_count}
-use Rattle.cic_terms.specs.Answer.{SameParts, AreSame, MakesBody, HasParts, after, terms_after, body_after, so_far}
+use Rattle.cic_terms.specs.Denotes.{tree, shapes, branch_list, term_list, body_list, shape, shape_list, domain_count}
+use Rattle.cic_terms.specs.Answer.{SameParts, AreSame, MakesBody, AddsBody, AreWhole, MakesBodies, after, terms_after, so_far}
 use Rattle.cic_terms.specs.Sizes.{Fits, ChildrenFit}
 use Rattle.std.specs.declared.rc.Rc.{Rc}
 use Rattle.std.specs.declared.alloc.Global.{Global}
@@ -15,8 +15,9 @@ use Rattle.cic_terms.specs.declared.term.TermFault.TheVariants.{NoMemory}
 use Rattle.cic_terms.specs.declared.term.Term.{Term}
 use Rattle.cic_terms.specs.declared.term.Branch.{Branch}
 use Rattle.cic_terms.specs.declared.term.FixBody.{FixBody}
-use Rattle.cic_terms.proofs.Children.{count_children}
-use Rattle.cic_terms.proofs.Rows.{branch_more, term_more, terms_count, parts, parts_are, parts_fit}
+use Rattle.cic_terms.specs.declared.term.FixBodies.{FixBodies, out-FixBodies}
+use Rattle.cic_terms.proofs.Children.{count_children, ChildrenSoFar, children_end}
+use Rattle.cic_terms.proofs.Rows.{branch_more, term_more, body_more, shape_more, bodies_are, shapes_end, shapes_count, terms_count, parts, parts_are, parts_fit}
 use Rattle.cic_terms.proofs.Sameness.{shape_same, parts_same}
 
 pub take_more : {A : Type 0} (xs : List A) (i : ℕ) (x : A) → i < length xs → x ≡ get_or xs i x → take (i + 1) xs ≡ take i xs ++ x ∷ []
@@ -80,21 +81,49 @@ pub whole_list : {A : Type 0} (old : List A) (i : ℕ) (made : Option (Vec A Glo
 whole_list old i made e h = rw e (take_all old i h)
 
 -- a function with its new parts
-pub body_made : (count room : ℕ) (old : FixBody) (ds : Option Terms) (c b : Option (Rc Term Global)) (wd : Children) (wc wb : Tree) (result : Result (Option FixBody) TermFault) →
-    IfOk result (λ r. HasParts old ds c b (body_after old r)) → OnErr result (result ≡ Err NoMemory) →
-    terms_after old.domains ds ≡ wd → after (tree old.codomain) c ≡ wc → after (tree old.body) b ≡ wb →
-    ChildrenFit room wd → Fits room wc → Fits room wb → count_children wd ≡ domain_count old →
-    MakesBody count room old (parts wd (domain_count old) wc (count + domain_count old) wb) result
-body_made count room old ds c b wd wc wb (Ok r) h never e f g i j k l =
-    let m = terms_count (body_after old r).domains wd (domain_count old) (h.domains ∙ e) l in
-    let same = h.k in
+pub body_added : (room i : ℕ) (old : List FixBody) (one : FixBody) (made made' : Option (Vec FixBody Global)) (ds : Option Terms) (c b : Option (Rc Term Global)) (wd : Children) (wc wb : Tree) (result : Result (Unit {0}) TermFault) →
+    OnOk result (AddsBody i old one made made' ds c b) → OnErr result (result ≡ Err NoMemory) →
+    terms_after one.domains ds ≡ wd → after (tree one.codomain) c ≡ wc → after (tree one.body) b ≡ wb →
+    ChildrenFit room wd → Fits room wc → Fits room wb → count_children wd ≡ domain_count one →
+    MakesBody room i old one (parts wd (domain_count one) wc (length old + domain_count one) wb) made made' result
+body_added room i old one made made' ds c b wd wc wb (Ok _) h never e f g j k l m =
+    let p = h.has_parts in
+    let so = so_far old i made in
+    let n = terms_count h.added.domains wd (domain_count one) (p.domains ∙ e) m in
+    let same : shape h.added ≡ shape one = let same_k = p.k in cc in
     record {
-      shape = cc;
+      shapes = shapes_are_same _ _ h.is_last ∙ shape_more so h.added ∙ ap (λ z. shape_list so ++ z ∷ []) same;
+      parts = parts_are_same (length old) _ _ h.is_last ∙ body_more (length old) so h.added
+          ∙ ap (join (body_list (length old) so)) (parts_are (length old) _ _ _ _ _ _ _ _ (p.domains ∙ e) n (p.codomain ∙ f) (p.body ∙ g));
+      fits = parts_fit _ _ _ _ _ _ j k l;
+      deep = tt;
+    }
+body_added room i old one made made' ds c b wd wc wb (Err fault) h is e f g j k l m =
+    record { shapes = tt; parts = tt; fits = tt; deep = λ d. absurd (cc) }
+
+-- the functions of a loop that ends
+pub bodies_made : (room i : ℕ) (all : FixBodies) (old : List FixBody) (made : Option (Vec FixBody Global)) (want : Children) (result : Result (Option (Rc FixBodies Global)) TermFault) →
+    old ≡ (out-FixBodies all).items.items → length old ≤ i → shape_list (so_far old i made) ++ [] ≡ shapes all → ChildrenSoFar room (body_list (length old) (so_far old i made)) no_child want →
+    IfOk result (λ r. AreWhole made r) → OnErr result (result ≡ Err NoMemory) → MakesBodies room all want result
+bodies_made room i all old None want (Ok None) e le s k ok never =
+    let p = children_end room (body_list (length old) (take i old)) want k in
+    record {
+      shapes = refl;
       children = record {
-        ok = parts_are count _ _ _ _ _ _ _ _ (h.domains ∙ e) m (h.codomain ∙ f) (h.body ∙ g);
-        fits = parts_fit _ _ _ _ _ _ i j k;
+        ok = sym (bodies_are all old (length old) e (ap length e)) ∙ ap (body_list (length old)) (sym (take_all old i le)) ∙ p.0;
+        fits = p.1;
         deep = tt;
       };
     }
-body_made count room old ds c b wd wc wb (Err fault) h is e f g i j k l =
-    record { shape = tt; children = record { ok = tt; fits = tt; deep = λ d. absurd (cc) } }
+bodies_made room i all old None want (Ok (Some r)) e le s k ok never = absurd ok
+bodies_made room i all old (Some made) want (Ok None) e le s k ok never = absurd ok
+bodies_made room i all old (Some made) want (Ok (Some r)) e le s k ok never =
+    let p = children_end room (body_list (length old) made.items) want k in
+    let same = shapes_end made.items (shapes all) s in
+    let count : length made.items ≡ length old = shapes_count made.items all same ∙ ap length (sym e) in
+    record {
+      shapes = ok.0 ∙ same;
+      children = record { ok = ok.1 ∙ ap (λ n. body_list n made.items) count ∙ p.0; fits = p.1; deep = tt };
+    }
+bodies_made room i all old made want (Err fault) e le s k ok is =
+    record { shapes = tt; children = record { ok = tt; fits = tt; deep = λ d. absurd (cc) } }

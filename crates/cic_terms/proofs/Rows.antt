@@ -98,14 +98,18 @@ pub body_more : (all : ℕ) (bs : List FixBody) (b : FixBody) → body_list all 
 body_more all [] b = join_leaf (body_parts all b)
 body_more all (x ∷ bs) b = ap (join (body_parts all x)) (body_more all bs b) ∙ sym (join_assoc (body_parts all x) (body_list all bs) (body_parts all b))
 
-shape_more : (made : List FixBody) (b : FixBody) (rest : List Shape) → shape_list (made ++ b ∷ []) ++ rest ≡ shape_list made ++ shape b ∷ rest
-shape_more [] b rest = refl
-shape_more (x ∷ made) b rest = ap (λ z. shape x ∷ z) (shape_more made b rest)
+pub shape_more : (made : List FixBody) (b : FixBody) → shape_list (made ++ b ∷ []) ≡ shape_list made ++ shape b ∷ []
+shape_more [] b = refl
+shape_more (x ∷ made) b = ap (λ z. shape x ∷ z) (shape_more made b)
 
-pub shapes_more : (made made' : List FixBody) (b x : FixBody) (now rest : List FixBody) (whole : List Shape) →
-    shape_list made ++ shape_list now ≡ whole → now ≡ x ∷ rest → made' ≡ made ++ b ∷ [] → shape b ≡ shape x → shape_list made' ++ shape_list rest ≡ whole
-shapes_more made made' b x now rest whole h e f g =
-    rw f (shape_more made b (shape_list rest) ∙ ap (λ z. shape_list made ++ z ∷ shape_list rest) g ∙ sym (ap (λ z. shape_list made ++ shape_list z) e) ∙ h)
+one_more : (made : List Shape) (s : Shape) (rest : List Shape) → (made ++ s ∷ []) ++ rest ≡ made ++ s ∷ rest
+one_more [] s rest = refl
+one_more (x ∷ made) s rest = ap (λ z. x ∷ z) (one_more made s rest)
+
+pub shapes_more : (made made' : List Shape) (x : FixBody) (now rest : List FixBody) (whole : List Shape) →
+    made ++ shape_list now ≡ whole → now ≡ x ∷ rest → made' ≡ made ++ shape x ∷ [] → made' ++ shape_list rest ≡ whole
+shapes_more made made' x now rest whole h e f =
+    ap (λ z. z ++ shape_list rest) f ∙ one_more made (shape x) (shape_list rest) ∙ sym (ap (λ z. made ++ shape_list z) e) ∙ h
 
 no_more : (ss : List Shape) → ss ++ [] ≡ ss
 no_more [] = refl

@@ -1,4 +1,4 @@
--- Lifting and substitution change no former, so what each Fix has stays.
+-- Lifting and substitution change no former, so what each Fix and each level has stays.
 use Rattle.std.proofs.Common.{ℕ, Bool, true, false, if◌then◌else◌, ltb, eqb}
 use Rattle.cic_terms.specs.Tree.{Tree, rel, node, Children, no_child, child, over}
 use Rattle.cic_terms.specs.Lift.{lift_tree, lift_children, subst_tree, subst_children}

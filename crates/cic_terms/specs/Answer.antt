@@ -1,13 +1,13 @@
 -- What a call that makes a term answers.
-use Rattle.std.specs.Prelude.{ℕ, List, [], ◌∷◌, take, Vec, Option, None, Some, Result, IfOk, IfErr, OnOk, ◌≡◌, ◌⊎◌}
-use Rattle.cic_terms.specs.Tree.{Tree, Children}
+use Rattle.std.specs.Prelude.{ℕ, ◌+◌, List, [], ◌∷◌, ◌++◌, length, take, Vec, Option, None, Some, Result, IfOk, IfErr, OnOk, ◌≡◌, ◌⊎◌}
+use Rattle.cic_terms.specs.Tree.{Tree, Children, let_in, case, join}
 use Rattle.cic_terms.specs.Sizes.{Fits, ChildrenFit}
 use Rattle.cic_terms.specs.Mentions.{Mentions, ChildrenMention}
 use Rattle.cic_names.specs.declared.name.GlobalId.{GlobalId}
-use Rattle.cic_terms.specs.Denotes.{tree, branches, bodies, terms, shapes, body_parts, shape}
+use Rattle.cic_terms.specs.Denotes.{tree, branches, bodies, terms, shapes, shape, shape_list, body_list}
 use Rattle.std.specs.declared.rc.Rc.{Rc}
 use Rattle.std.specs.declared.alloc.Global.{Global}
-use Rattle.cic_terms.specs.declared.term.Term.{Term}
+use Rattle.cic_terms.specs.declared.term.Term.{Term, Let', Case'}
 use Rattle.cic_terms.specs.declared.term.Terms.{Terms}
 use Rattle.cic_terms.specs.declared.term.Branches.{Branches}
 use Rattle.cic_terms.specs.declared.term.FixBodies.{FixBodies}
@@ -58,6 +58,16 @@ abbrev pub branches_after : Branches → Option (Rc Branches Global) → Childre
 branches_after old None = branches old
 branches_after old (Some new) = branches new.value
 
+-- the tree of a let after a change of its parts, and that of a match
+abbrev pub let_after : Term → (new_body new_ty new_rest : Option (Rc Term Global)) → Tree
+let_after (Let' _ t _ a _ u) new_body new_ty new_rest = let_in (after (tree t) new_body) (after (tree a) new_ty) (after (tree u) new_rest)
+let_after t new_body new_ty new_rest = tree t
+
+abbrev pub case_after : Term → (new_motive new_value : Option (Rc Term Global)) → Option (Rc Branches Global) → Tree
+case_after (Case' n id _ p _ c _ bs) new_motive new_value new_branches =
+    case id n (after (tree p) new_motive) (after (tree c) new_value) (branches_after bs new_branches)
+case_after t new_motive new_value new_branches = tree t
+
 abbrev pub bodies_after : FixBodies → Option (Rc FixBodies Global) → FixBodies
 bodies_after old None = old
 bodies_after old (Some new) = new.value
@@ -78,9 +88,12 @@ pub record MakesBodies (room : ℕ) (old : FixBodies) (want : Children) (result 
   pub shapes : IfOk result (λ r. shapes (bodies_after old r) ≡ shapes old)
   pub children : MakesChildren (λ r. bodies (bodies_after old r)) room want result
 
-pub record MakesBody (all room : ℕ) (old : FixBody) (want : Children) (result : Result (Option FixBody) TermFault) : Type 0 where
-  pub shape : IfOk result (λ r. shape (body_after old r) ≡ shape old)
-  pub children : MakesChildren (λ r. body_parts all (body_after old r)) room want result
+-- one function more, with its parts after a change, behind those that the change has made of the first `i`
+pub record MakesBody (room i : ℕ) (old : List FixBody) (one : FixBody) (want : Children) (made made' : Option (Vec FixBody Global)) (result : Result (Unit {0}) TermFault) : Type 0 where
+  pub shapes : OnOk result (shape_list (so_far old (i + 1) made') ≡ shape_list (so_far old i made) ++ shape one ∷ [])
+  pub parts : OnOk result (body_list (length old) (so_far old (i + 1) made') ≡ join (body_list (length old) (so_far old i made)) want)
+  pub fits : OnOk result (ChildrenFit room want)
+  pub deep : IfErr result (λ fault. fault ≡ Deep → ¬ ChildrenFit room want)
 
 -- the same function, as far as its tree goes, and the same functions
 pub record SameParts (a b : FixBody) : Type 0 where
@@ -95,6 +108,18 @@ AreSame [] [] = Unit {0}
 AreSame [] (b ∷ bs) = ⊥
 AreSame (a ∷ xs) [] = ⊥
 AreSame (a ∷ xs) (b ∷ ys) = SameParts a b × AreSame xs ys
+
+-- the same, where the parts of the function are given
+pub record AddsBody (i : ℕ) (old : List FixBody) (one : FixBody) (made made' : Option (Vec FixBody Global)) (new_domains : Option Terms) (new_codomain new_body : Option (Rc Term Global)) : Type 0 where
+  pub added : FixBody
+  pub has_parts : HasParts one new_domains new_codomain new_body added
+  pub is_last : AreSame (so_far old (i + 1) made') (so_far old i made ++ added ∷ [])
+
+-- the functions of a Fix are those that were made
+abbrev pub AreWhole : Option (Vec FixBody Global) → Option (Rc FixBodies Global) → Type 0
+AreWhole None None = Unit {0}
+AreWhole (Some made) (Some r) = (shapes r.value ≡ shape_list made.items) × (bodies r.value ≡ body_list (length made.items) made.items)
+AreWhole made r = ⊥
 
 pub record SameBodies (a b : FixBodies) : Type 0 where
   pub shapes : shapes a ≡ shapes b

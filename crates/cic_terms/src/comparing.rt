@@ -1,6 +1,7 @@
 ghost use Rattle.std.specs.Prelude.{◌↔◌, ◌≡◌, IsTrue, ◌∷◌, []};
 ghost use Rattle.cic_terms.specs.Denotes.{tree, branches, bodies, terms, shapes, shape, body_parts, tree_sort};
 ghost use Rattle.cic_terms.specs.Answer.{SameParts, SameBodies};
+ghost use Rattle.cic_terms.specs.Kinds.{IsCase};
 
 use crate::term::{Branches, FixBodies, FixBody, Term, Terms};
 
@@ -26,6 +27,25 @@ pub fn same(a: &Term, b: &Term) -> bool
                 rest: rest_b,
             },
         ) => same(body, body_b) && same(ty, ty_b) && same(rest, rest_b),
+        (Term::Case { .. }, Term::Case { .. }) => same_case(a, b),
+        (
+            Term::Fix { which, bodies },
+            Term::Fix {
+                which: which_b,
+                bodies: bodies_b,
+            },
+        ) => which == which_b && same_bodies(bodies, bodies_b),
+        _ => false,
+    }
+}
+
+/// `same` of a match and a term.
+#[cycle(same)]
+fn same_case(a: &Term, b: &Term) -> bool
+    requires { IsCase a.now }
+    ensures { IsTrue result ↔ (tree a.now ≡ tree b.now) }
+{
+    match (a, b) {
         (
             Term::Case {
                 ind,
@@ -48,13 +68,6 @@ pub fn same(a: &Term, b: &Term) -> bool
                 && same(scrutinee, scrutinee_b)
                 && same_branches(branches, branches_b)
         }
-        (
-            Term::Fix { which, bodies },
-            Term::Fix {
-                which: which_b,
-                bodies: bodies_b,
-            },
-        ) => which == which_b && same_bodies(bodies, bodies_b),
         _ => false,
     }
 }

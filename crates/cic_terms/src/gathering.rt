@@ -1,11 +1,11 @@
 //! Lists of parts that a change makes anew from its first change on. What stands before that is copied only then.
-ghost use Rattle.std.specs.Prelude.{◌≡◌, ◌+◌, ◌<◌, ◌≤◌, ◌++◌, ◌∷◌, [], length, take, IfOk, OnErr, Err};
-ghost use Rattle.cic_terms.specs.Answer.{after, so_far, terms_after, body_after, SameParts, AreSame, HasParts};
+ghost use Rattle.std.specs.Prelude.{◌≡◌, ◌+◌, ◌<◌, ◌≤◌, ◌++◌, ◌∷◌, [], length, take, IfOk, OnOk, OnErr, Err, Some};
+ghost use Rattle.cic_terms.specs.Answer.{after, so_far, terms_after, body_after, SameParts, AreSame, HasParts, AddsBody, AreWhole};
 ghost use Rattle.cic_terms.specs.Denotes.{tree, terms, term_list, branch_list};
 ghost use Rattle.cic_terms.specs.Tree.{child, no_child, many, join};
 
 use crate::sharing::taken;
-use crate::term::{Branch, FixBody, Term, TermFault, Terms, keep};
+use crate::term::{Branch, FixBodies, FixBody, Term, TermFault, Terms, keep, shared};
 use std::alloc::Global;
 use std::rc::Rc;
 
@@ -200,7 +200,7 @@ fn chosen_terms(alloc: Global, old: &Terms, new: Option<Terms>) -> Result<Terms,
 }
 
 /// The function with its new parts, or nothing where there are none.
-pub(crate) fn make_body(
+fn make_body(
     alloc: Global,
     one: &FixBody,
     new_domains: Option<Terms>,
@@ -268,8 +268,7 @@ fn chosen_body(alloc: Global, old: &FixBody, new: Option<FixBody>) -> Result<Fix
 
 /// The functions made so far and one more: there are none as long as nothing changes.
 #[tactic(auto, using(crate::proofs::Gathered::still_bodies))]
-#[inline(always)]
-pub(crate) fn more_bodies(
+fn more_bodies(
     alloc: Global,
     old: &[FixBody],
     count: usize,
@@ -289,7 +288,6 @@ pub(crate) fn more_bodies(
 }
 
 /// The functions with one more, where something has changed.
-#[inline(never)]
 fn grown_bodies(
     alloc: Global,
     old: &[FixBody],
@@ -307,3 +305,52 @@ fn grown_bodies(
     keep(&mut items, body)?;
     Ok(items)
 }
+
+/// Puts the function with its new parts behind those made so far.
+#[inline(never)]
+pub(crate) fn add_body(
+    alloc: Global,
+    old: &[FixBody],
+    i: usize,
+    one: &FixBody,
+    made: &mut Option<Vec<FixBody>>,
+    new_domains: Option<Terms>,
+    new_codomain: Option<Rc<Term>>,
+    new_body: Option<Rc<Term>>,
+) -> Result<(), TermFault>
+    requires within { i < length old.now }
+    requires next { take (i + 1) old.now ≡ take i old.now ++ one.now ∷ [] }
+    ensures ok { OnOk result (AddsBody i old.now one.now made.old made.new new_domains new_codomain new_body) }
+    ensures err { OnErr result (result ≡ Err TermFault.NoMemory) }
+{
+    let new = make_body(alloc, one, new_domains, new_codomain, new_body)?;
+    *made = more_bodies(alloc, old, i, one, made.take(), new)?;
+    Ok(())
+}
+
+/// The functions that were made, or nothing where there are none.
+#[inline(always)]
+pub(crate) fn whole_bodies(
+    alloc: Global,
+    made: Option<Vec<FixBody>>,
+) -> Result<Option<Rc<FixBodies>>, TermFault>
+    ensures ok { IfOk result (λ r. AreWhole made r) }
+    ensures err { OnErr result (result ≡ Err TermFault.NoMemory) }
+{
+    match made {
+        None => Ok(None),
+        Some(items) => Ok(Some(shared_bodies(alloc, items)?)),
+    }
+}
+
+#[inline(never)]
+fn shared_bodies(alloc: Global, items: Vec<FixBody>) -> Result<Rc<FixBodies>, TermFault>
+    ensures ok { IfOk result (λ r. AreWhole (Some items) (Some r)) }
+    ensures err { OnErr result (result ≡ Err TermFault.NoMemory) }
+{
+    shared(alloc, FixBodies::from_vec(items))
+}
+
+/// Lets go of what was made, outside the frames of a recursion.
+#[inline(never)]
+pub(crate) fn discard<T: Drop>(_made: T) {}

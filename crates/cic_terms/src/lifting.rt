@@ -1,11 +1,12 @@
 //! Lifting: a number is added to the free Rels of a term.
-ghost use Rattle.std.specs.Prelude.{IsTrue, ◌≡◌, ◌+◌, ◌-◌, ◌^◌, ◌≤◌, ◌<◌, min, ◌∷◌, []};
+ghost use Rattle.std.specs.Prelude.{IsTrue, ◌≡◌, ◌+◌, ◌-◌, ◌^◌, ◌≤◌, ◌<◌, min, ◌∷◌, [], ◌++◌, length, take};
 ghost use Rattle.cic_terms.specs.Denotes.{tree, branches, bodies, terms, shapes, shape, body_parts, tree_sort};
+ghost use Rattle.cic_terms.specs.Kinds.{IsLet, IsCase, IsFix};
 ghost use Rattle.cic_terms.specs.Answer.{Makes, MakesShared, MakesChildren, MakesBody, MakesBodies, Changes, branches_after, terms_after, bodies_after};
 ghost use Rattle.cic_terms.specs.Tree.{rel};
 ghost use Rattle.cic_terms.specs.Lift.{lift_tree, lift_children, Stays};
 
-use crate::gathering::{make_body, more_bodies, more_branches, more_terms};
+use crate::gathering::{add_body, discard, more_branches, more_terms, whole_bodies};
 use crate::sharing::{
     make_app, make_case, make_fix, make_lam, make_let, make_prod, make_rel, part, taken,
 };
@@ -81,7 +82,10 @@ fn lift_under(
     if stays(t, u128::from(at), room) {
         return Ok(None);
     }
-    lift_at(alloc, t, at, by, room)
+    match t {
+        Term::Fix { .. } => lift_fix(alloc, t, at, by, room),
+        _ => lift_at(alloc, t, at, by, room),
+    }
 }
 
 /// Gives nothing where nothing changes.
@@ -112,44 +116,91 @@ pub(crate) fn lift_at(
             let new_b = lift_under(alloc, b, from, 1, by, room - 1)?;
             make_lam(alloc, a, b, new_a, new_b)
         }
-        Term::Let { body, ty, rest } => {
-            let new_body = lift_under(alloc, body, from, 0, by, room - 1)?;
-            let new_ty = lift_under(alloc, ty, from, 0, by, room - 1)?;
-            let new_rest = lift_under(alloc, rest, from, 1, by, room - 1)?;
-            make_let(alloc, body, ty, rest, new_body, new_ty, new_rest)
-        }
+        Term::Let { .. } => lift_let(alloc, t, from, by, room),
         Term::App(f, x) => {
             let new_f = lift_under(alloc, f, from, 0, by, room - 1)?;
             let new_x = lift_under(alloc, x, from, 0, by, room - 1)?;
             make_app(alloc, f, x, new_f, new_x)
         }
-        Term::Case {
-            arity,
-            ind,
-            motive,
-            scrutinee,
-            branches,
-        } => {
-            let new_motive = lift_under(alloc, motive, from, *arity as usize + 1, by, room - 1)?;
-            let new_scrutinee = lift_under(alloc, scrutinee, from, 0, by, room - 1)?;
-            let new_branches = lift_all_branches(alloc, branches, from, by, room - 1)?;
-            make_case(
-                alloc,
-                *arity,
-                ind,
-                motive,
-                scrutinee,
-                branches,
-                new_motive,
-                new_scrutinee,
-                new_branches,
-            )
-        }
-        Term::Fix { which, bodies } => {
-            let new_bodies = lift_all_bodies(alloc, bodies, from, by, room - 1)?;
-            make_fix(alloc, *which, bodies, new_bodies)
-        }
+        Term::Case { .. } => lift_case(alloc, t, from, by, room),
+        Term::Fix { .. } => lift_fix(alloc, t, from, by, room),
     }
+}
+
+/// `lift_at` of a `let`.
+#[cycle(lift)]
+#[inline(never)]
+fn lift_let(
+    alloc: Global,
+    t: &Term,
+    from: u32,
+    by: u32,
+    room: u32,
+) -> Result<Option<Rc<Term>>, TermFault>
+    requires is_let { IsLet t.now }
+    requires room { 1 ≤ room }
+    ensures { Changes room (tree t.now) (lift_tree from by (tree t.now)) result }
+{
+    let Term::Let { body, ty, rest } = t else {
+        unreachable!()
+    };
+    let new_body = lift_under(alloc, body, from, 0, by, room - 1)?;
+    let new_ty = lift_under(alloc, ty, from, 0, by, room - 1)?;
+    let new_rest = lift_under(alloc, rest, from, 1, by, room - 1)?;
+    make_let(alloc, t, new_body, new_ty, new_rest)
+}
+
+/// `lift_at` of a `match`.
+#[cycle(lift)]
+#[inline(never)]
+fn lift_case(
+    alloc: Global,
+    t: &Term,
+    from: u32,
+    by: u32,
+    room: u32,
+) -> Result<Option<Rc<Term>>, TermFault>
+    requires is_case { IsCase t.now }
+    requires room { 1 ≤ room }
+    ensures { Changes room (tree t.now) (lift_tree from by (tree t.now)) result }
+{
+    let Term::Case {
+        arity,
+        motive,
+        scrutinee,
+        branches,
+        ..
+    } = t
+    else {
+        unreachable!()
+    };
+    let new_motive = lift_under(alloc, motive, from, *arity as usize + 1, by, room - 1)?;
+    let new_scrutinee = lift_under(alloc, scrutinee, from, 0, by, room - 1)?;
+    let new_branches = lift_all_branches(alloc, branches, from, by, room - 1)?;
+    make_case(alloc, t, new_motive, new_scrutinee, new_branches)
+}
+
+/// `lift_at` of a `fix`. A part of a `fix` that is one again calls this at once, which takes less of the stack.
+#[cycle(lift)]
+#[inline(never)]
+fn lift_fix(
+    alloc: Global,
+    t: &Term,
+    from: u32,
+    by: u32,
+    room: u32,
+) -> Result<Option<Rc<Term>>, TermFault>
+    requires is_fix { IsFix t.now }
+    ensures { Changes room (tree t.now) (lift_tree from by (tree t.now)) result }
+{
+    let Term::Fix { which, bodies } = t else {
+        unreachable!()
+    };
+    if room == 0 {
+        return Err(TermFault::Deep);
+    }
+    let new_bodies = lift_all_bodies(alloc, bodies, from, by, room - 1)?;
+    make_fix(alloc, *which, bodies, new_bodies)
 }
 
 #[cycle(lift)]
@@ -198,28 +249,42 @@ fn lift_all_terms(
     }
 }
 
+/// Makes the parts of the function `one`, and puts it behind those that were made of the earlier ones.
 #[cycle(lift)]
 #[inline(never)]
 fn lift_body(
     alloc: Global,
     one: &FixBody,
-    count: usize,
+    old: &[FixBody],
+    i: usize,
     from: u32,
     by: u32,
     room: u32,
-) -> Result<Option<FixBody>, TermFault>
-    requires { count < 2 ^ 62 }
-    ensures { MakesBody count room one.now (lift_children from by (body_parts count one.now)) result }
+    made: &mut Option<Vec<FixBody>>,
+) -> Result<(), TermFault>
+    requires within { i < length old.now }
+    requires next { take (i + 1) old.now ≡ take i old.now ++ one.now ∷ [] }
+    ensures { MakesBody room i old.now one.now (lift_children from by (body_parts (length old.now) one.now)) made.old made.new result }
 {
+    let count = old.len();
     let above = one.domains.items.len();
-    let new_domains = lift_all_terms(alloc, &one.domains, from, by, room)?;
     let new_codomain = lift_under(alloc, &one.codomain, from, above, by, room)?;
     let new_body = lift_under(alloc, &one.body, from, count + above, by, room)?;
-    make_body(alloc, one, new_domains, new_codomain, new_body)
+    let new_domains = lift_all_terms(alloc, &one.domains, from, by, room)?;
+    add_body(
+        alloc,
+        old,
+        i,
+        one,
+        made,
+        new_domains,
+        new_codomain,
+        new_body,
+    )
 }
 
 #[cycle(lift)]
-#[inline(never)]
+#[inline(always)]
 fn lift_all_bodies(
     alloc: Global,
     all: &FixBodies,
@@ -229,17 +294,15 @@ fn lift_all_bodies(
 ) -> Result<Option<Rc<FixBodies>>, TermFault>
     ensures { MakesBodies room all.now (lift_children from by (bodies all.now)) result }
 {
-    let count = all.items.len();
     let old = all.items.as_slice();
     let mut made = None;
     for (i, one) in old.iter().enumerate() {
-        let new = lift_body(alloc, one, count, from, by, room)?;
-        made = more_bodies(alloc, old, i, one, made, new)?;
+        if let Err(fault) = lift_body(alloc, one, old, i, from, by, room, &mut made) {
+            discard(made);
+            return Err(fault);
+        }
     }
-    match made {
-        None => Ok(None),
-        Some(items) => Ok(Some(shared(alloc, FixBodies { items })?)),
-    }
+    whole_bodies(alloc, made)
 }
 
 /// Adds `by` to each free Rel at or above `from`. A part that stays as it is, is shared.

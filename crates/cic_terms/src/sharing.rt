@@ -1,12 +1,13 @@
 //! Terms made of parts that a change gave anew or left as they are.
 ghost use Rattle.std.specs.Prelude.{◌≡◌, IfOk, OnErr, Err};
-ghost use Rattle.cic_terms.specs.Answer.{after, branches_after, bodies_after};
+ghost use Rattle.cic_terms.specs.Kinds.{IsLet, IsCase};
+ghost use Rattle.cic_terms.specs.Answer.{after, branches_after, bodies_after, let_after, case_after};
 ghost use Rattle.cic_terms.specs.Denotes.{tree, branches, bodies, shapes};
-ghost use Rattle.cic_terms.specs.Tree.{rel, prod, lam, let_in, app, case, fix};
+ghost use Rattle.cic_terms.specs.Tree.{rel, prod, lam, app, fix};
 
 use crate::copying::{copy, share};
 use crate::term::{Branches, FixBodies, Term, TermFault, copy_id, shared};
-use cic_names::{GlobalId, NoMemory};
+use cic_names::NoMemory;
 use std::alloc::Global;
 use std::rc::Rc;
 
@@ -141,98 +142,92 @@ fn new_app(
     Ok(Some(shared(alloc, Term::App(part(f, new_f)?, part(x, new_x)?))?))
 }
 
+/// The `let` with its new parts, or nothing where there are none.
 #[inline(always)]
 pub(crate) fn make_let(
     alloc: Global,
-    body: &Rc<Term>,
-    ty: &Rc<Term>,
-    rest: &Rc<Term>,
+    t: &Term,
     new_body: Option<Rc<Term>>,
     new_ty: Option<Rc<Term>>,
     new_rest: Option<Rc<Term>>,
 ) -> Result<Option<Rc<Term>>, TermFault>
-    ensures ok { IfOk result (λ r. after (let_in (tree body.now.value) (tree ty.now.value) (tree rest.now.value)) r ≡ let_in (after (tree body.now.value) new_body) (after (tree ty.now.value) new_ty) (after (tree rest.now.value) new_rest)) }
+    requires { IsLet t.now }
+    ensures ok { IfOk result (λ r. after (tree t.now) r ≡ let_after t.now new_body new_ty new_rest) }
     ensures err { OnErr result (result ≡ Err TermFault.NoMemory) }
 {
     if new_body.is_none() && new_ty.is_none() && new_rest.is_none() {
         return Ok(None);
     }
-    new_let(alloc, body, ty, rest, new_body, new_ty, new_rest)
+    new_let(alloc, t, new_body, new_ty, new_rest)
 }
 
 #[inline(never)]
 fn new_let(
     alloc: Global,
-    body: &Rc<Term>,
-    ty: &Rc<Term>,
-    rest: &Rc<Term>,
+    t: &Term,
     new_body: Option<Rc<Term>>,
     new_ty: Option<Rc<Term>>,
     new_rest: Option<Rc<Term>>,
 ) -> Result<Option<Rc<Term>>, TermFault>
-    ensures ok { IfOk result (λ r. after (let_in (tree body.now.value) (tree ty.now.value) (tree rest.now.value)) r ≡ let_in (after (tree body.now.value) new_body) (after (tree ty.now.value) new_ty) (after (tree rest.now.value) new_rest)) }
+    requires { IsLet t.now }
+    ensures ok { IfOk result (λ r. after (tree t.now) r ≡ let_after t.now new_body new_ty new_rest) }
     ensures err { OnErr result (result ≡ Err TermFault.NoMemory) }
 {
-    Ok(Some(shared(
-        alloc,
-        Term::Let {
-            body: part(body, new_body)?,
-            ty: part(ty, new_ty)?,
-            rest: part(rest, new_rest)?,
-        },
-    )?))
+    let Term::Let { body, ty, rest } = t else {
+        unreachable!()
+    };
+    let body = part(body, new_body)?;
+    let ty = part(ty, new_ty)?;
+    let rest = part(rest, new_rest)?;
+    Ok(Some(shared(alloc, Term::Let { body, ty, rest })?))
 }
 
+/// The `match` with its new parts, or nothing where there are none.
 #[inline(always)]
 pub(crate) fn make_case(
     alloc: Global,
-    arity: u32,
-    ind: &GlobalId,
-    motive: &Rc<Term>,
-    scrutinee: &Rc<Term>,
-    all: &Rc<Branches>,
+    t: &Term,
     new_motive: Option<Rc<Term>>,
     new_scrutinee: Option<Rc<Term>>,
-    new_all: Option<Rc<Branches>>,
+    new_branches: Option<Rc<Branches>>,
 ) -> Result<Option<Rc<Term>>, TermFault>
-    ensures ok { IfOk result (λ r. after (case ind.now arity (tree motive.now.value) (tree scrutinee.now.value) (branches all.now.value)) r ≡ case ind.now arity (after (tree motive.now.value) new_motive) (after (tree scrutinee.now.value) new_scrutinee) (branches_after all.now.value new_all)) }
+    requires { IsCase t.now }
+    ensures ok { IfOk result (λ r. after (tree t.now) r ≡ case_after t.now new_motive new_scrutinee new_branches) }
     ensures err { OnErr result (result ≡ Err TermFault.NoMemory) }
 {
-    if new_motive.is_none() && new_scrutinee.is_none() && new_all.is_none() {
+    if new_motive.is_none() && new_scrutinee.is_none() && new_branches.is_none() {
         return Ok(None);
     }
-    new_case(
-        alloc,
-        arity,
-        ind,
-        motive,
-        scrutinee,
-        all,
-        new_motive,
-        new_scrutinee,
-        new_all,
-    )
+    new_case(alloc, t, new_motive, new_scrutinee, new_branches)
 }
 
 #[inline(never)]
 fn new_case(
     alloc: Global,
-    arity: u32,
-    ind: &GlobalId,
-    motive: &Rc<Term>,
-    scrutinee: &Rc<Term>,
-    all: &Rc<Branches>,
+    t: &Term,
     new_motive: Option<Rc<Term>>,
     new_scrutinee: Option<Rc<Term>>,
-    new_all: Option<Rc<Branches>>,
+    new_branches: Option<Rc<Branches>>,
 ) -> Result<Option<Rc<Term>>, TermFault>
-    ensures ok { IfOk result (λ r. after (case ind.now arity (tree motive.now.value) (tree scrutinee.now.value) (branches all.now.value)) r ≡ case ind.now arity (after (tree motive.now.value) new_motive) (after (tree scrutinee.now.value) new_scrutinee) (branches_after all.now.value new_all)) }
+    requires { IsCase t.now }
+    ensures ok { IfOk result (λ r. after (tree t.now) r ≡ case_after t.now new_motive new_scrutinee new_branches) }
     ensures err { OnErr result (result ≡ Err TermFault.NoMemory) }
 {
+    let Term::Case {
+        arity,
+        ind,
+        motive,
+        scrutinee,
+        branches,
+    } = t
+    else {
+        unreachable!()
+    };
+    let arity = *arity;
     let ind = copy_id(ind)?;
     let motive = part(motive, new_motive)?;
     let scrutinee = part(scrutinee, new_scrutinee)?;
-    let branches = part_branches(all, new_all)?;
+    let branches = part_branches(branches, new_branches)?;
     Ok(Some(shared(
         alloc,
         Term::Case {

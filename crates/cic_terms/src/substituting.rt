@@ -1,11 +1,12 @@
 //! Substitution: a term is put in for a Rel, and those above it are lowered.
-ghost use Rattle.std.specs.Prelude.{◌≡◌, ◌+◌, ◌-◌, ◌*◌, ◌^◌, ◌≤◌, ◌<◌, ◌∷◌, [], IfOk, OnOk, OnErr, Err};
+ghost use Rattle.std.specs.Prelude.{◌≡◌, ◌+◌, ◌-◌, ◌*◌, ◌^◌, ◌≤◌, ◌<◌, ◌∷◌, [], ◌++◌, length, take, IfOk, OnOk, OnErr, Err};
 ghost use Rattle.cic_terms.specs.Denotes.{tree, branches, bodies, terms, shapes, shape, body_parts, tree_sort};
+ghost use Rattle.cic_terms.specs.Kinds.{IsLet, IsCase, IsFix};
 ghost use Rattle.cic_terms.specs.Answer.{Makes, MakesShared, MakesChildren, MakesBody, MakesBodies, Changes, branches_after, terms_after, bodies_after, after};
 ghost use Rattle.cic_terms.specs.Tree.{rel};
 ghost use Rattle.cic_terms.specs.Lift.{lift_tree, subst_tree, subst_children};
 
-use crate::gathering::{make_body, more_bodies, more_branches, more_terms};
+use crate::gathering::{add_body, discard, more_branches, more_terms, whole_bodies};
 use crate::lifting::{MOST, ROOM, lift_at, stays};
 use crate::sharing::{
     make_app, make_case, make_fix, make_lam, make_let, make_prod, make_rel, part, taken,
@@ -75,7 +76,10 @@ fn subst_under(
     if stays(t, at, room) {
         return Ok(None);
     }
-    subst_at(alloc, t, at, with, room)
+    match t {
+        Term::Fix { .. } => subst_fix(alloc, t, at, with, room),
+        _ => subst_at(alloc, t, at, with, room),
+    }
 }
 
 /// Gives nothing where nothing changes.
@@ -107,44 +111,94 @@ fn subst_at(
             let new_b = subst_under(alloc, b, at + 1, with, room - 1)?;
             make_lam(alloc, a, b, new_a, new_b)
         }
-        Term::Let { body, ty, rest } => {
-            let new_body = subst_under(alloc, body, at, with, room - 1)?;
-            let new_ty = subst_under(alloc, ty, at, with, room - 1)?;
-            let new_rest = subst_under(alloc, rest, at + 1, with, room - 1)?;
-            make_let(alloc, body, ty, rest, new_body, new_ty, new_rest)
-        }
+        Term::Let { .. } => subst_let(alloc, t, at, with, room),
         Term::App(f, x) => {
             let new_f = subst_under(alloc, f, at, with, room - 1)?;
             let new_x = subst_under(alloc, x, at, with, room - 1)?;
             make_app(alloc, f, x, new_f, new_x)
         }
-        Term::Case {
-            arity,
-            ind,
-            motive,
-            scrutinee,
-            branches,
-        } => {
-            let new_motive = subst_under(alloc, motive, at + (*arity as u128 + 1), with, room - 1)?;
-            let new_scrutinee = subst_under(alloc, scrutinee, at, with, room - 1)?;
-            let new_branches = subst_all_branches(alloc, branches, at, with, room - 1)?;
-            make_case(
-                alloc,
-                *arity,
-                ind,
-                motive,
-                scrutinee,
-                branches,
-                new_motive,
-                new_scrutinee,
-                new_branches,
-            )
-        }
-        Term::Fix { which, bodies } => {
-            let new_bodies = subst_all_bodies(alloc, bodies, at, with, room - 1)?;
-            make_fix(alloc, *which, bodies, new_bodies)
-        }
+        Term::Case { .. } => subst_case(alloc, t, at, with, room),
+        Term::Fix { .. } => subst_fix(alloc, t, at, with, room),
     }
+}
+
+/// `subst_at` in a `let`.
+#[cycle(subst)]
+#[inline(never)]
+fn subst_let(
+    alloc: Global,
+    t: &Term,
+    at: u128,
+    with: &Rc<Term>,
+    room: u32,
+) -> Result<Option<Rc<Term>>, TermFault>
+    requires is_let { IsLet t.now }
+    requires room { 1 ≤ room }
+    requires place { at + room * 2 ^ 66 < 2 ^ 127 }
+    ensures { Changes room (tree t.now) (subst_tree at (tree with.now.value) (tree t.now)) result }
+{
+    let Term::Let { body, ty, rest } = t else {
+        unreachable!()
+    };
+    let new_body = subst_under(alloc, body, at, with, room - 1)?;
+    let new_ty = subst_under(alloc, ty, at, with, room - 1)?;
+    let new_rest = subst_under(alloc, rest, at + 1, with, room - 1)?;
+    make_let(alloc, t, new_body, new_ty, new_rest)
+}
+
+/// `subst_at` in a `match`.
+#[cycle(subst)]
+#[inline(never)]
+fn subst_case(
+    alloc: Global,
+    t: &Term,
+    at: u128,
+    with: &Rc<Term>,
+    room: u32,
+) -> Result<Option<Rc<Term>>, TermFault>
+    requires is_case { IsCase t.now }
+    requires room { 1 ≤ room }
+    requires place { at + room * 2 ^ 66 < 2 ^ 127 }
+    ensures { Changes room (tree t.now) (subst_tree at (tree with.now.value) (tree t.now)) result }
+{
+    let Term::Case {
+        arity,
+        motive,
+        scrutinee,
+        branches,
+        ..
+    } = t
+    else {
+        unreachable!()
+    };
+    let new_motive = subst_under(alloc, motive, at + (*arity as u128 + 1), with, room - 1)?;
+    let new_scrutinee = subst_under(alloc, scrutinee, at, with, room - 1)?;
+    let new_branches = subst_all_branches(alloc, branches, at, with, room - 1)?;
+    make_case(alloc, t, new_motive, new_scrutinee, new_branches)
+}
+
+/// `subst_at` in a `fix`. A part of a `fix` that is one again calls this at once, which takes less of the stack.
+#[cycle(subst)]
+#[inline(never)]
+fn subst_fix(
+    alloc: Global,
+    t: &Term,
+    at: u128,
+    with: &Rc<Term>,
+    room: u32,
+) -> Result<Option<Rc<Term>>, TermFault>
+    requires is_fix { IsFix t.now }
+    requires place { at + room * 2 ^ 66 < 2 ^ 127 }
+    ensures { Changes room (tree t.now) (subst_tree at (tree with.now.value) (tree t.now)) result }
+{
+    let Term::Fix { which, bodies } = t else {
+        unreachable!()
+    };
+    if room == 0 {
+        return Err(TermFault::Deep);
+    }
+    let new_bodies = subst_all_bodies(alloc, bodies, at, with, room - 1)?;
+    make_fix(alloc, *which, bodies, new_bodies)
 }
 
 #[cycle(subst)]
@@ -195,34 +249,43 @@ fn subst_all_terms(
     }
 }
 
+/// Makes the parts of the function `one`, and puts it behind those that were made of the earlier ones.
 #[cycle(subst)]
 #[inline(never)]
 fn subst_body(
     alloc: Global,
     one: &FixBody,
-    count: usize,
+    old: &[FixBody],
+    i: usize,
     at: u128,
     with: &Rc<Term>,
     room: u32,
-) -> Result<Option<FixBody>, TermFault>
-    requires { at + (room + 1) * 2 ^ 66 < 2 ^ 127 }
-    ensures { MakesBody count room one.now (subst_children at (tree with.now.value) (body_parts count one.now)) result }
+    made: &mut Option<Vec<FixBody>>,
+) -> Result<(), TermFault>
+    requires within { i < length old.now }
+    requires next { take (i + 1) old.now ≡ take i old.now ++ one.now ∷ [] }
+    requires place { at + (room + 1) * 2 ^ 66 < 2 ^ 127 }
+    ensures { MakesBody room i old.now one.now (subst_children at (tree with.now.value) (body_parts (length old.now) one.now)) made.old made.new result }
 {
-    let above = one.domains.items.len();
+    let above = one.domains.items.len() as u128;
+    let all = old.len() as u128 + above;
+    let new_codomain = subst_under(alloc, &one.codomain, at + above, with, room)?;
+    let new_body = subst_under(alloc, &one.body, at + all, with, room)?;
     let new_domains = subst_all_terms(alloc, &one.domains, at, with, room)?;
-    let new_codomain = subst_under(alloc, &one.codomain, at + above as u128, with, room)?;
-    let new_body = subst_under(
+    add_body(
         alloc,
-        &one.body,
-        at + (count as u128 + above as u128),
-        with,
-        room,
-    )?;
-    make_body(alloc, one, new_domains, new_codomain, new_body)
+        old,
+        i,
+        one,
+        made,
+        new_domains,
+        new_codomain,
+        new_body,
+    )
 }
 
 #[cycle(subst)]
-#[inline(never)]
+#[inline(always)]
 fn subst_all_bodies(
     alloc: Global,
     all: &FixBodies,
@@ -233,17 +296,15 @@ fn subst_all_bodies(
     requires { at + (room + 1) * 2 ^ 66 < 2 ^ 127 }
     ensures { MakesBodies room all.now (subst_children at (tree with.now.value) (bodies all.now)) result }
 {
-    let count = all.items.len();
     let old = all.items.as_slice();
     let mut made = None;
     for (i, one) in old.iter().enumerate() {
-        let new = subst_body(alloc, one, count, at, with, room)?;
-        made = more_bodies(alloc, old, i, one, made, new)?;
+        if let Err(fault) = subst_body(alloc, one, old, i, at, with, room, &mut made) {
+            discard(made);
+            return Err(fault);
+        }
     }
-    match made {
-        None => Ok(None),
-        Some(items) => Ok(Some(shared(alloc, FixBodies { items })?)),
-    }
+    whole_bodies(alloc, made)
 }
 
 /// Puts `with` in for Rel `at`, lifted to where it is put, and lowers those above it. A part that stays as it is, is shared.

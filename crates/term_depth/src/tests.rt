@@ -2,7 +2,9 @@
 ghost use Rattle.std.specs.Prelude.{◌<◌};
 
 use crate::node;
-use cic_names::{Constraint, Constraints, GlobalId, Level, LevelName, Name, NameFault, Part};
+use cic_names::{
+    Atom, Constraint, Constraints, Expr, GlobalId, Level, LevelName, Name, NameFault, Part, Sort,
+};
 use cic_terms::{
     Branch, Branches, FixBodies, FixBody, Term, TermFault, Terms, lift, mentions, same, subst,
 };
@@ -222,5 +224,45 @@ fn constraints(rt: HostRuntime) -> Result<(), Fail> {
             "{left} {strict}"
         );
     }
+    Ok(())
+}
+
+/// `Type` at the successor of the level `u`.
+fn sample_sort(alloc: Global) -> Result<Sort, Fail> {
+    let mut atoms = Vec::new(alloc);
+    atoms.push(Atom {
+        level: level(alloc, "u", Part::Visible)?,
+        plus: true,
+    })?;
+    if atoms.is_empty() {
+        return Err(Fail::from("an atom"));
+    }
+    Ok(Sort::Typ(Expr::new(alloc, atoms)?))
+}
+
+// A copy is what it was made of: a sort with its expression, atom and level, and a constraint.
+#[test]
+fn copied_sort(rt: HostRuntime) -> Result<(), Fail> {
+    let sort = sample_sort(rt.alloc())?;
+    assert!(rt; sort.copy()?.same(&sort));
+    assert!(rt; !sort.same(&Sort::Set));
+    let Sort::Typ(expr) = &sort else {
+        return Err(Fail::from("a universe"));
+    };
+    assert_eq!(rt; expr.atoms().len(), 1);
+    let atom = &expr.atoms()[0];
+    assert!(rt; atom.copy()?.same(atom));
+    assert!(rt; atom.level.copy()?.same(&atom.level));
+    Ok(())
+}
+
+#[test]
+fn copied_constraint(rt: HostRuntime) -> Result<(), Fail> {
+    let constraint = Constraint {
+        left: Level::Set,
+        strict: true,
+        right: level(rt.alloc(), "u", Part::Declared)?,
+    };
+    assert!(rt; constraint.copy()?.same(&constraint));
     Ok(())
 }

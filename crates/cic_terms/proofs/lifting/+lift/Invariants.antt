@@ -8,7 +8,7 @@ use Rattle.cic_terms.proofs.lifting.+lift.Given as goal
 abbrev pub invariant-lift_all_bodies-loop-i : goal.invariant-lift_all_bodies-loop-i
 invariant-lift_all_bodies-loop-i l =
     (shape_list (so_far l.old l.i l.made) ++ shape_list (drop l.i l.old) ≡ shapes l.all)
-    × ChildrenSoFar l.room (body_list l.count (so_far l.old l.i l.made)) (lift_children l.from l.by (body_list l.count (drop l.i l.old))) (lift_children l.from l.by (bodies l.all))
+    × ChildrenSoFar l.room (body_list (length l.old) (so_far l.old l.i l.made)) (lift_children l.from l.by (body_list (length l.old) (drop l.i l.old))) (lift_children l.from l.by (bodies l.all))
 
 abbrev pub invariant-lift_all_branches-loop-i : goal.invariant-lift_all_branches-loop-i
 invariant-lift_all_branches-loop-i l =

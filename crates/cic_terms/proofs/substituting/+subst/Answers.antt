@@ -1,79 +1,77 @@
-use Rattle.std.proofs.Common.{◌≡◌, refl, ◌+◌, List, ◌++◌, length, drop, ap, sym, ◌∙◌}
+use Rattle.std.proofs.Common.{◌≡◌, refl, ◌+◌, List, length, drop, ap, sym, ◌∙◌, arith}
 use Rattle.std.proofs.lemmas.Result.{err_from_is_err_and}
-use Rattle.cic_terms.specs.Denotes.{tree, branches, bodies, shapes, terms, shape_list, branch_list, body_list, term_list, body_parts, domain_count}
-use Rattle.cic_terms.specs.Tree.{join, child, many}
-use Rattle.cic_terms.specs.Answer.{so_far, body_after}
+use Rattle.cic_terms.specs.Denotes.{tree, branches, terms, branch_list, body_list, term_list, body_parts, domain_count}
+use Rattle.cic_terms.specs.Tree.{child, many}
+use Rattle.cic_terms.specs.Answer.{so_far}
 use Rattle.cic_terms.specs.Lift.{subst_children}
 use Rattle.cic_terms.specs.declared.term.Term.{Term}
 use Rattle.cic_terms.specs.declared.term.Branch.{Branch}
 use Rattle.cic_terms.specs.declared.term.FixBody.{FixBody}
-use Rattle.cic_terms.specs.declared.term.FixBodies.{out-FixBodies}
-use Rattle.cic_terms.proofs.Rows.{branches-roll, bodies-roll, shapes-roll, branches_are, bodies_are, shapes_are, body_more, shapes_more, shapes_end, shapes_count, count_terms_list, subst_parts, fits_parts}
-use Rattle.cic_terms.proofs.Gathered.{whole_list, body_made, parts_are_same, shapes_are_same}
+use Rattle.cic_terms.proofs.Rows.{branches-roll, branches_are, bodies_are, shapes_are, shapes_more, count_terms_list, subst_parts, fits_parts}
+use Rattle.cic_terms.proofs.Gathered.{whole_list, body_added, bodies_made}
 use Rattle.cic_terms.proofs.Limits.{no_room}
 use Rattle.cic_terms.proofs.Children.{drop_at, drop_whole, children_begin, children_more, children_refused, children_end, kid_fits, fits_kid, second_fits, subst_join, count_subst}
 use Rattle.cic_terms.proofs.substituting.+subst.Goals as goal
 
 pub subst_all_bodies-loop-i-init : goal.subst_all_bodies-loop-i-init
-subst_all_bodies-loop-i-init t c =
-    let n : c.len-count.result ≡ length (out-FixBodies c.args.all.now).items.items = c.len-count.ensures ∙ (out-FixBodies c.args.all.now).items.ok.0 in (
-      shapes_are _ _ c.as_slice-old.ensures.value,
-      children_begin _ _ _ _ refl (ap (subst_children c.args.at (tree c.args.with.now.value)) (bodies_are _ _ _ c.as_slice-old.ensures.value n)),
-    )
+subst_all_bodies-loop-i-init t c = (
+  shapes_are _ _ c.as_slice-old.ensures.value,
+  children_begin _ _ _ _ refl (ap (subst_children c.args.at (tree c.args.with.now.value)) (bodies_are _ _ _ c.as_slice-old.ensures.value (ap length c.as_slice-old.ensures.value))),
+)
 
-pub subst_all_bodies-returns-in_err-new : goal.subst_all_bodies-returns-in_err-new
-subst_all_bodies-returns-in_err-new t c =
-    let p = err_from_is_err_and c.from_residual.result c.from_residual.ensures.1 in
-    let now = ap (λ (l : List FixBody). subst_children c.args.at (tree c.args.with.now.value) (body_list c.len-count.result l)) (drop_at c.as_slice-old.result.now c.loop-i.i c.index-old-i.result c.loop-i-test.true c.index-old-i.is)
-    ∙ subst_join c.args.at (tree c.args.with.now.value) (body_parts c.len-count.result c.index-old-i.result) (body_list c.len-count.result (drop (c.loop-i.i + 1) c.as_slice-old.result.now)) in
-    rw (p.1, p.2) (record { shapes = tt; children = record { ok = tt; fits = tt; deep = λ d. children_refused _ _ _ _ _ _ c.loop-i.invariant.1 now (c.in_err-new.ensures.children.deep d) } })
+pub subst_all_bodies-returns-in-Err : goal.subst_all_bodies-returns-in-Err
+subst_all_bodies-returns-in-Err t c =
+    let old = c.as_slice-old.result.now in
+    let now = ap (λ (l : List FixBody). subst_children c.args.at (tree c.args.with.now.value) (body_list (length old) l)) (drop_at old c.loop-i.i c.index-old-i.result c.loop-i-test.true c.index-old-i.is)
+    ∙ subst_join c.args.at (tree c.args.with.now.value) (body_parts (length old) c.index-old-i.result) (body_list (length old) (drop (c.loop-i.i + 1) old)) in
+    record { shapes = tt; children = record { ok = tt; fits = tt; deep = λ d. children_refused _ _ _ _ _ _ c.loop-i.invariant.1 now (c.in-Err.ensures.deep d) } }
 
 pub subst_all_bodies-loop-i-preserved : goal.subst_all_bodies-loop-i-preserved
 subst_all_bodies-loop-i-preserved t c =
-    let at = drop_at c.as_slice-old.result.now c.loop-i.i c.index-old-i.result c.loop-i-test.true c.index-old-i.is in
-    let now = ap (λ (l : List FixBody). subst_children c.args.at (tree c.args.with.now.value) (body_list c.len-count.result l)) at
-    ∙ subst_join c.args.at (tree c.args.with.now.value) (body_parts c.len-count.result c.index-old-i.result) (body_list c.len-count.result (drop (c.loop-i.i + 1) c.as_slice-old.result.now)) in
-    let b = body_after c.index-old-i.result c.in_ok-new.new in
-    let so = so_far c.as_slice-old.result.now c.loop-i.i c.loop-i.made in
-    let more = c.in_ok-made.ensures.ok in
-    let made = parts_are_same c.len-count.result _ _ more ∙ body_more c.len-count.result so b ∙ ap (join (body_list c.len-count.result so)) c.in_ok-new.ensures.children.ok in (
-      ap (λ z. z ++ shape_list (drop (c.loop-i.i + 1) c.as_slice-old.result.now)) (shapes_are_same _ _ more)
-          ∙ shapes_more so _ b c.index-old-i.result _ _ _ c.loop-i.invariant.0 at refl c.in_ok-new.ensures.shape,
-      children_more _ _ _ _ _ _ _ c.loop-i.invariant.1 now made c.in_ok-new.ensures.children.fits,
+    let old = c.as_slice-old.result.now in
+    let at = drop_at old c.loop-i.i c.index-old-i.result c.loop-i-test.true c.index-old-i.is in
+    let now = ap (λ (l : List FixBody). subst_children c.args.at (tree c.args.with.now.value) (body_list (length old) l)) at
+    ∙ subst_join c.args.at (tree c.args.with.now.value) (body_parts (length old) c.index-old-i.result) (body_list (length old) (drop (c.loop-i.i + 1) old)) in
+    let made = c.in_default.ensures in (
+      shapes_more _ _ c.index-old-i.result _ _ _ c.loop-i.invariant.0 at made.shapes,
+      children_more _ _ _ _ _ _ _ c.loop-i.invariant.1 now made.parts made.fits,
     )
 
-pub subst_all_bodies-returns-in-None : goal.subst_all_bodies-returns-in-None
-subst_all_bodies-returns-in-None t c =
-    let n : c.len-count.result ≡ length (out-FixBodies c.args.all.now).items.items = c.len-count.ensures ∙ (out-FixBodies c.args.all.now).items.ok.0 in
+pub subst_all_bodies-returns : goal.subst_all_bodies-returns
+subst_all_bodies-returns t c =
     let none = drop_whole c.as_slice-old.result.now c.loop-i.i c.loop-i-test.false in
-    let kept = whole_list c.as_slice-old.result.now c.loop-i.i c.loop-i.made c.in-None.is c.loop-i-test.false in
     let all = rw none at c.loop-i.invariant in
-    let p = children_end c.args.room (body_list c.len-count.result (so_far c.as_slice-old.result.now c.loop-i.i c.loop-i.made)) _ all.1 in
-    record {
-      shapes = refl;
-      children = record {
-        ok = sym (bodies_are _ _ _ c.as_slice-old.ensures.value n) ∙ ap (body_list c.len-count.result) (sym kept) ∙ p.0;
-        fits = p.1;
-        deep = tt;
-      };
-    }
+    bodies_made c.args.room c.loop-i.i c.args.all.now _ c.loop-i.made _ c.whole_bodies.result c.as_slice-old.ensures.value c.loop-i-test.false all.0 all.1 c.whole_bodies.ensures.ok c.whole_bodies.ensures.err
 
-pub subst_all_bodies-returns-in_ok-shared-in-Some : goal.subst_all_bodies-returns-in_ok-shared-in-Some
-subst_all_bodies-returns-in_ok-shared-in-Some t c =
-    let n : c.len-count.result ≡ length (out-FixBodies c.args.all.now).items.items = c.len-count.ensures ∙ (out-FixBodies c.args.all.now).items.ok.0 in
-    let none = drop_whole c.as_slice-old.result.now c.loop-i.i c.loop-i-test.false in
-    let all = rw none at c.loop-i.invariant in
-    let s = ap (λ m. shape_list (so_far c.as_slice-old.result.now c.loop-i.i m)) (sym c.in-Some.is) ∙ shapes_end (so_far c.as_slice-old.result.now c.loop-i.i c.loop-i.made) _ all.0 in
-    let p = children_end c.args.room (body_list c.len-count.result (so_far c.as_slice-old.result.now c.loop-i.i c.loop-i.made)) _ all.1 in
-    record {
-      shapes = ap shapes c.in_ok-shared-in-Some.ensures.ok ∙ shapes-roll _ ∙ s;
-      children = record {
-        ok = ap bodies c.in_ok-shared-in-Some.ensures.ok ∙ bodies-roll _ c.len-count.result (shapes_count c.in-Some.items.items c.args.all.now s ∙ sym n)
-            ∙ ap (λ m. body_list c.len-count.result (so_far c.as_slice-old.result.now c.loop-i.i m)) (sym c.in-Some.is) ∙ p.0;
-        fits = p.1;
-        deep = tt;
-      };
-    }
+pub subst_body-returns-in_err-new_codomain : goal.subst_body-returns-in_err-new_codomain
+subst_body-returns-in_err-new_codomain t c =
+    let p = err_from_is_err_and c.from_residual.result c.from_residual.ensures.1 in
+    let n : c.len-above.result ≡ domain_count c.args.one.now = c.len-above.ensures ∙ c.args.one.now.domains.items.ok.0 in
+    let never = rw n at (c.in_err-new_codomain.ensures.deep) in
+    rw (p.1, p.2, subst_parts) (record { shapes = tt; parts = tt; fits = tt; deep = λ d h. never d (fits_parts _ _ _ _ _ _ h).1 })
+
+pub subst_body-returns-in_err-new_body : goal.subst_body-returns-in_err-new_body
+subst_body-returns-in_err-new_body t c =
+    let p = err_from_is_err_and c.from_residual-in_err-new_body.result c.from_residual-in_err-new_body.ensures.1 in
+    let n : c.len-above.result ≡ domain_count c.args.one.now = c.len-above.ensures ∙ c.args.one.now.domains.items.ok.0 in
+    let never = rw n at (c.in_err-new_body.ensures.deep) in
+    rw (p.1, p.2, subst_parts) (record { shapes = tt; parts = tt; fits = tt; deep = λ d h. never d (fits_parts _ _ _ _ _ _ h).2 })
+
+pub subst_body-returns-in_err-new_domains : goal.subst_body-returns-in_err-new_domains
+subst_body-returns-in_err-new_domains t c =
+    let p = err_from_is_err_and c.from_residual-in_err-new_domains.result c.from_residual-in_err-new_domains.ensures.1 in
+    rw (p.1, p.2, subst_parts) (record { shapes = tt; parts = tt; fits = tt; deep = λ d h. c.in_err-new_domains.ensures.deep d (fits_parts _ _ _ _ _ _ h).0 })
+
+pub subst_body-returns : goal.subst_body-returns
+subst_body-returns t c =
+    let n : c.len-above.result ≡ domain_count c.args.one.now = c.len-above.ensures ∙ c.args.one.now.domains.items.ok.0 in
+    let codomain = rw n at (c.in_ok-new_codomain.ensures) in
+    let body = rw n at (c.in_ok-new_body.ensures) in
+    let domains = c.in_ok-new_domains.ensures in
+    let count = count_subst c.args.at (tree c.args.with.now.value) (terms c.args.one.now.domains) ∙ count_terms_list 0 c.args.one.now.domains.items.items in
+    rw subst_parts (
+    body_added c.args.room c.args.i c.args.old.now c.args.one.now _ _ _ _ _ _ _ _ c.add_body.result c.add_body.ensures.ok c.add_body.ensures.err domains.ok codomain.ok body.ok domains.fits codomain.fits body.fits count
+    )
 
 pub subst_all_branches-loop-i-init : goal.subst_all_branches-loop-i-init
 subst_all_branches-loop-i-init t c = children_begin _ _ _ _ refl (ap (subst_children c.args.at (tree c.args.with.now.value)) (branches_are _ _ c.as_slice-old.ensures.value))
@@ -134,36 +132,6 @@ subst_all_terms-returns-in-Some t c =
     let p = children_end c.args.room (term_list 0 (so_far c.as_slice-old.result.now c.loop-above.above c.loop-above.made)) _ all in
     record { ok = ap (λ m. term_list 0 (so_far c.as_slice-old.result.now c.loop-above.above m)) (sym c.in-Some.is) ∙ p.0; fits = p.1; deep = tt }
 
-pub subst_body-returns-in_err-new_domains : goal.subst_body-returns-in_err-new_domains
-subst_body-returns-in_err-new_domains t c =
-    let p = err_from_is_err_and c.from_residual.result c.from_residual.ensures.1 in
-    rw (p.1, p.2, subst_parts) (record { shape = tt; children = record { ok = tt; fits = tt; deep = λ d h. c.in_err-new_domains.ensures.deep d (fits_parts _ _ _ _ _ _ h).0 } })
-
-pub subst_body-returns-in_err-new_codomain : goal.subst_body-returns-in_err-new_codomain
-subst_body-returns-in_err-new_codomain t c =
-    let p = err_from_is_err_and c.from_residual-in_err-new_codomain.result c.from_residual-in_err-new_codomain.ensures.1 in
-    let n : c.len-above.result ≡ domain_count c.args.one.now = c.len-above.ensures ∙ c.args.one.now.domains.items.ok.0 in
-    let never = rw n at (c.in_err-new_codomain.ensures.deep) in
-    rw (p.1, p.2, subst_parts) (record { shape = tt; children = record { ok = tt; fits = tt; deep = λ d h. never d (fits_parts _ _ _ _ _ _ h).1 } })
-
-pub subst_body-returns-in_err-new_body : goal.subst_body-returns-in_err-new_body
-subst_body-returns-in_err-new_body t c =
-    let p = err_from_is_err_and c.from_residual-in_err-new_body.result c.from_residual-in_err-new_body.ensures.1 in
-    let n : c.len-above.result ≡ domain_count c.args.one.now = c.len-above.ensures ∙ c.args.one.now.domains.items.ok.0 in
-    let never = rw n at (c.in_err-new_body.ensures.deep) in
-    rw (p.1, p.2, subst_parts) (record { shape = tt; children = record { ok = tt; fits = tt; deep = λ d h. never d (fits_parts _ _ _ _ _ _ h).2 } })
-
-pub subst_body-returns : goal.subst_body-returns
-subst_body-returns t c =
-    let n : c.len-above.result ≡ domain_count c.args.one.now = c.len-above.ensures ∙ c.args.one.now.domains.items.ok.0 in
-    let codomain = rw n at (c.in_ok-new_codomain.ensures) in
-    let body = rw n at (c.in_ok-new_body.ensures) in
-    let domains = c.in_ok-new_domains.ensures in
-    let count = count_subst c.args.at (tree c.args.with.now.value) (terms c.args.one.now.domains) ∙ count_terms_list 0 c.args.one.now.domains.items.items in
-    rw subst_parts (
-    body_made c.args.count c.args.room c.args.one.now _ _ _ _ _ _ c.make_body.result c.make_body.ensures.ok c.make_body.ensures.err domains.ok codomain.ok body.ok domains.fits codomain.fits body.fits count
-    )
-
 pub subst_at-returns-then-room-eq0 : goal.subst_at-returns-then-room-eq0
 subst_at-returns-then-room-eq0 t c = record { ok = tt; fits = tt; deep = λ d. rw c.if-room-eq0.true (no_room _) }
 
@@ -179,14 +147,17 @@ subst_at-returns-in_err-new_b-in-Lam t c =
     let never = rw c.deref-in-Lam-2.ensures at (c.in_err-new_b-in-Lam.ensures.deep) in
     rw (p.1, p.2, c.in-Lam.is) (record { ok = tt; fits = tt; deep = λ d h. never d (second_fits _ _ _ _ _ _ _ c.if-room-eq0.false h) })
 
-pub subst_at-returns-in_err-new_ty-in-Let : goal.subst_at-returns-in_err-new_ty-in-Let
-subst_at-returns-in_err-new_ty-in-Let t c =
-    let p = err_from_is_err_and c.from_residual-in_err-new_ty-in-Let.result c.from_residual-in_err-new_ty-in-Let.ensures.1 in
-    let never = rw c.deref-in-Let-2.ensures at (c.in_err-new_ty-in-Let.ensures.deep) in
-    rw (p.1, p.2, c.in-Let.is) (record { ok = tt; fits = tt; deep = λ d h. never d (second_fits _ _ _ _ _ _ _ c.if-room-eq0.false h) })
+pub subst_let-returns-in_err-new_ty : goal.subst_let-returns-in_err-new_ty
+subst_let-returns-in_err-new_ty t c =
+    let p = err_from_is_err_and c.from_residual-in_err-new_ty.result c.from_residual-in_err-new_ty.ensures.1 in
+    let never = rw c.deref-2.ensures at (c.in_err-new_ty.ensures.deep) in
+    rw (p.1, p.2, c.in-Let.is) (record { ok = tt; fits = tt; deep = λ d h. never d (second_fits _ _ _ _ _ _ _ (λ e. omega (arith, c.requires.room, e)) h) })
 
-pub subst_at-returns-in_err-new_scrutinee-in-Case : goal.subst_at-returns-in_err-new_scrutinee-in-Case
-subst_at-returns-in_err-new_scrutinee-in-Case t c =
-    let p = err_from_is_err_and c.from_residual-in_err-new_scrutinee-in-Case.result c.from_residual-in_err-new_scrutinee-in-Case.ensures.1 in
-    let never = rw c.deref-in-Case-2.ensures at (c.in_err-new_scrutinee-in-Case.ensures.deep) in
-    rw (p.1, p.2, c.in-Case.is) (record { ok = tt; fits = tt; deep = λ d h. never d (second_fits _ _ _ _ _ _ _ c.if-room-eq0.false h) })
+pub subst_case-returns-in_err-new_scrutinee : goal.subst_case-returns-in_err-new_scrutinee
+subst_case-returns-in_err-new_scrutinee t c =
+    let p = err_from_is_err_and c.from_residual-in_err-new_scrutinee.result c.from_residual-in_err-new_scrutinee.ensures.1 in
+    let never = rw c.deref-2.ensures at (c.in_err-new_scrutinee.ensures.deep) in
+    rw (p.1, p.2, c.in-Case.is) (record { ok = tt; fits = tt; deep = λ d h. never d (second_fits _ _ _ _ _ _ _ (λ e. omega (arith, c.requires.room, e)) h) })
+
+pub subst_fix-returns-then-room-eq0 : goal.subst_fix-returns-then-room-eq0
+subst_fix-returns-then-room-eq0 t c = record { ok = tt; fits = tt; deep = λ d. rw c.if-room-eq0.true (no_room _) }

@@ -8,7 +8,7 @@ use Rattle.cic_terms.proofs.substituting.+subst.Given as goal
 abbrev pub invariant-subst_all_bodies-loop-i : goal.invariant-subst_all_bodies-loop-i
 invariant-subst_all_bodies-loop-i l =
     (shape_list (so_far l.old l.i l.made) ++ shape_list (drop l.i l.old) ≡ shapes l.all)
-    × ChildrenSoFar l.room (body_list l.count (so_far l.old l.i l.made)) (subst_children l.at (tree l.with.value) (body_list l.count (drop l.i l.old))) (subst_children l.at (tree l.with.value) (bodies l.all))
+    × ChildrenSoFar l.room (body_list (length l.old) (so_far l.old l.i l.made)) (subst_children l.at (tree l.with.value) (body_list (length l.old) (drop l.i l.old))) (subst_children l.at (tree l.with.value) (bodies l.all))
 
 abbrev pub invariant-subst_all_branches-loop-i : goal.invariant-subst_all_branches-loop-i
 invariant-subst_all_branches-loop-i l =
