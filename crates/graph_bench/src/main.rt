@@ -1,5 +1,5 @@
-//! Enforces so many strict constraints between universe levels in an order that a word names: `graph_bench SIZE SHAPE`.
-//! It prints counts.
+//! Enforces constraints between so many universe levels in an order that a word names: `graph_bench SIZE SHAPE`, or
+//! `graph_bench SIZE SHAPE plainly` for the slow body. It prints counts.
 #![tactic(auto)]
 
 use anyhow::bail;
@@ -48,6 +48,60 @@ fn ends(shape: &str, size: u32, i: u32) -> (u32, u32) {
     }
 }
 
+/// A constraint between levels that numbers name.
+#[derive(Clone, Copy)]
+struct Asked {
+    left: u32,
+    strict: bool,
+    right: u32,
+}
+
+/// A constraint of a chain of levels that becomes equal. Each level of it is above one of a strict chain. The constraints
+/// go up the chain, then strictly from each level to one more, and then back down the chain.
+fn of_equal_chain(size: u32, i: u32) -> Asked {
+    let link = i % size.max(1);
+    let next = link.saturating_add(1);
+    let below = size.saturating_add(next);
+    let above = size.saturating_add(1).saturating_add(below);
+    let (left, strict, right) = match i / size.max(1) {
+        0 => (below, true, below.saturating_add(1)),
+        1 => (below, false, link),
+        2 => (link, false, next),
+        3 => (link, true, above),
+        _ => (next, false, link),
+    };
+    Asked {
+        left,
+        strict,
+        right,
+    }
+}
+
+/// The constraint with this number.
+fn constraint_at(shape: &str, size: u32, i: u32) -> Asked {
+    match shape {
+        "merged" => return of_equal_chain(size, i),
+        "equal" if i / size.max(1) == 3 => return of_equal_chain(size, i.saturating_add(size)),
+        "equal" => return of_equal_chain(size, i),
+        _ => {}
+    }
+    let (left, right) = ends(shape, size, i);
+    Asked {
+        left,
+        strict: true,
+        right,
+    }
+}
+
+/// How many constraints there are.
+fn count_of(shape: &str, size: u32) -> u32 {
+    match shape {
+        "equal" => size.saturating_mul(4),
+        "merged" => size.saturating_mul(5),
+        _ => size,
+    }
+}
+
 /// What there is in the end.
 struct Counts {
     levels: usize,
@@ -58,14 +112,30 @@ struct Counts {
     steps: usize,
 }
 
-/// Enforces a strict constraint between levels, and gives the number of steps of the cycle that it would close.
-fn enforce(graph: &mut Graph, owner: &Name, between: (u32, u32)) -> Result<usize, NoMemory> {
-    let constraint = Constraint {
-        left: level(owner, between.0)?,
-        strict: true,
-        right: level(owner, between.1)?,
+/// The constraint itself.
+fn made(owner: &Name, asked: &Asked) -> Result<Constraint, NoMemory> {
+    Ok(Constraint {
+        left: level(owner, asked.left)?,
+        strict: asked.strict,
+        right: level(owner, asked.right)?,
+    })
+}
+
+/// Enforces a constraint between levels, and gives the number of steps of the cycle that it would close.
+fn enforce(
+    graph: &mut Graph,
+    owner: &Name,
+    asked: &Asked,
+    plainly: bool,
+) -> Result<usize, NoMemory> {
+    let constraint = made(owner, asked)?;
+    let tag = Tag::Visible(owner.copy()?);
+    let answer = if plainly {
+        graph.enforce_plainly(&constraint, tag)
+    } else {
+        graph.enforce(&constraint, tag)
     };
-    match graph.enforce(&constraint, Tag::Visible(owner.copy()?)) {
+    match answer {
         Ok(()) => Ok(0),
         Err(GraphFault::Conflict(cycle)) => Ok(cycle.steps().len()),
         Err(GraphFault::Limit(_)) => Ok(0),
@@ -73,23 +143,29 @@ fn enforce(graph: &mut Graph, owner: &Name, between: (u32, u32)) -> Result<usize
     }
 }
 
-fn build(alloc: Global, owner: &Name, size: u32, shape: &str) -> Result<Counts, NoMemory> {
-    let mut graph = Graph::new(alloc)?;
+fn build(
+    alloc: Global,
+    owner: &Name,
+    size: u32,
+    shape: &str,
+    plainly: bool,
+) -> Result<Counts, NoMemory> {
+    let mut graph = Graph::new(alloc);
     let mut held: u32 = 0;
-    for i in 0..size {
-        let (left, right) = ends(shape, size, i);
-        let asked = Constraint {
-            left: level(owner, left)?,
-            strict: true,
-            right: level(owner, right)?,
-        };
-        if graph.holds(&asked) {
+    for i in 0..count_of(shape, size) {
+        let asked = constraint_at(shape, size, i);
+        if graph.holds(&made(owner, &asked)?) {
             held = held.saturating_add(1);
         }
-        enforce(&mut graph, owner, (left, right))?;
+        enforce(&mut graph, owner, &asked, plainly)?;
     }
     let steps = if shape == "cycle" {
-        enforce(&mut graph, owner, (size, 0))?
+        let back = Asked {
+            left: size,
+            strict: true,
+            right: 0,
+        };
+        enforce(&mut graph, owner, &back, plainly)?
     } else {
         0
     };
@@ -106,12 +182,13 @@ fn main(rt: HostRuntime) -> anyhow::Result<()> {
     let mut words = env::args(&rt)?;
     let (Some(_), Some(size), Some(shape)) = (words.next(), words.next(), words.next()) else {
         bail!(
-            "graph_bench SIZE SHAPE, where SHAPE is forwards, backwards, shuffled, star, random or cycle"
+            "graph_bench SIZE SHAPE, where SHAPE is forwards, backwards, shuffled, star, random, cycle, equal or merged"
         );
     };
     let size: u32 = size.as_str().parse()?;
     let owner = Name::new(alloc, b"Levels")?;
-    let Ok(counts) = build(alloc, &owner, size, shape.as_str()) else {
+    let plainly = words.next().is_some();
+    let Ok(counts) = build(alloc, &owner, size, shape.as_str(), plainly) else {
         bail!("no memory");
     };
     let Counts {

@@ -10,13 +10,13 @@ use Rattle.cic_names.specs.declared.constraint.Constraint.{Constraint}
 use Rattle.cic_rules.specs.Sameness.{same_level_name}
 use Rattle.cic_rules.specs.Numbering.{Numbered, Numbering, level_number, NotNumbered, IsNumbering, MeetsAt, Meets, MeetsAll}
 use Rattle.univ_graph.specs.declared.board.Row.{Row}
-use Rattle.univ_graph.specs.declared.numbers.LevelNumber.{LevelNumber}
-use Rattle.univ_graph.specs.Numbers.{constraints, numbering}
-use Rattle.univ_graph.specs.Places.{level_at, paired, rest, IsAbsent, IsAbsentLevel, count_one}
+use Rattle.univ_parts.specs.declared.numbers.LevelNumber.{LevelNumber}
+use Rattle.univ_parts.specs.Numbers.{constraints, numbering}
+use Rattle.univ_parts.specs.Places.{level_at, paired, rest, IsAbsent, IsAbsentLevel, count_one}
 use Rattle.univ_graph.specs.Kept.{with_name, with_level, with_ends, levels_from, levels_of}
 use Rattle.univ_graph.specs.Boards.{at, tagged, AreNumbers, IsTied, IsMet}
-use Rattle.univ_graph.proofs.Sameness.{name_same, name_self, true_or_false, number_here, number_later}
-use Rattle.univ_graph.proofs.Places.{same_some, get_last, get_old}
+use Rattle.univ_parts.proofs.Sameness.{name_same, name_self, true_or_false, number_here, number_later}
+use Rattle.univ_parts.proofs.AtPlaces.{same_some, get_last, get_old}
 
 pub with_known : (names : List LevelName) (l : LevelName) (p : ℕ) → slice_get names p ≡ Some l → with_name names l ≡ names
 with_known [] l p h = absurd (cc)

@@ -11,9 +11,9 @@ use Rattle.cic_names.specs.declared.level.Level.{Level}
 use Rattle.cic_names.specs.declared.level.Level.TheVariants.{Named}
 use Rattle.std.specs.Option.{option_map}
 use Rattle.std.proofs.lemmas.Option.{slice_get_within}
-use Rattle.univ_graph.specs.Places.{level_at}
+use Rattle.univ_parts.specs.Places.{level_at}
 use Rattle.univ_graph.specs.Boards.{at, mark_of, raised, all_raised, least_of, AreNumbers, AreInOrder, AreRaised, IsSound, IsSpread}
-use Rattle.univ_graph.proofs.Places.{at_within}
+use Rattle.univ_parts.proofs.AtPlaces.{at_within}
 
 pub all_raised_length : (least : ℕ) (ns ms : List ℕ) → length ms ≡ length ns → length (all_raised least ns ms) ≡ length ns
 all_raised_length least [] ms e = refl

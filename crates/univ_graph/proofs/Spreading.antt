@@ -7,10 +7,10 @@ use Rattle.univ_graph.specs.declared.board.Row.{Row}
 use Rattle.univ_graph.specs.declared.board.Board.{Board}
 use Rattle.univ_graph.specs.declared.spread.Step.{Step}
 use Rattle.cic_rules.specs.Numbering.{MeetsAt}
-use Rattle.univ_graph.specs.Places.{IsFront}
+use Rattle.univ_parts.specs.Places.{IsFront}
 use Rattle.univ_graph.specs.Boards.{at, total, mark_of, rows_at, IsSound, IsSpread, IsLinked, IsClosedBy}
-use Rattle.univ_graph.proofs.NameTable.{get_more}
-use Rattle.univ_graph.proofs.Places.{get_old, get_last, at_within, at_set_here, at_set_other, set_length, total_set, total_small, same_or_not, same_some, got}
+use Rattle.univ_parts.proofs.NameTable.{get_more}
+use Rattle.univ_parts.proofs.AtPlaces.{get_old, get_last, at_within, at_set_here, at_set_other, set_length, total_set, total_small, same_or_not, same_some, got}
 
 pub mark_small : (b : Bool) → (1 ≤ mark_of b) × (mark_of b ≤ 2)
 mark_small true = (omega arith, omega arith)
@@ -118,7 +118,7 @@ row_step b from strict i marks steps s next k r sound h is row leaves place way 
 pub record IsFollowed (b : Board) (from : ℕ) (strict : Bool) (i : ℕ) (marks : List ℕ) (steps : List Step) (s : Step) (n : ℕ) : Type 0 where
   pub spread : IsSpread b from strict i marks steps
   pub here : slice_get steps i ≡ Some s
-  pub rows : (m k : ℕ) (r : Row) → m < n → slice_get (rows_at b.out.items s.place) m ≡ Some k → slice_get b.rows.items k ≡ Some r → IsClosedBy marks s r
+  pub rows : (m k : ℕ) (r : Row) → m < n → slice_get (rows_at b.out.lists.items s.place) m ≡ Some k → slice_get b.rows.items k ≡ Some r → IsClosedBy marks s r
 
 before_or_at : (m n : ℕ) → m < n + 1 → (m < n) ⊎ (m ≡ n)
 before_or_at zero zero less = inr refl
@@ -128,14 +128,14 @@ before_or_at (suc m) (suc n) less = elim (before_or_at m n (omega arith)) [ inl 
 
 pub followed_more : (b : Board) (from : ℕ) (strict : Bool) (i : ℕ) (marks marks' : List ℕ) (steps steps' : List Step) (s : Step) (n k : ℕ) →
     IsFollowed b from strict i marks steps s n → IsSpread b from strict i marks' steps' → ((p : ℕ) → at marks p ≤ at marks' p) → IsFront steps steps' →
-    slice_get (rows_at b.out.items s.place) n ≡ Some k → ((s : Step) (r : Row) → slice_get steps i ≡ Some s → slice_get b.rows.items k ≡ Some r → IsClosedBy marks' s r) →
+    slice_get (rows_at b.out.lists.items s.place) n ≡ Some k → ((s : Step) (r : Row) → slice_get steps i ≡ Some s → slice_get b.rows.items k ≡ Some r → IsClosedBy marks' s r) →
     IsFollowed b from strict i marks' steps' s (n + 1)
 followed_more b from strict i marks marks' steps steps' s n k f h grow front is closed = record {
   spread = h;
   here = subst (λ z. slice_get z i ≡ Some s) (sym front.1) (get_old steps front.0 i s f.here);
   rows = λ m l r less at_m row leaves. elim (before_or_at m n less) [
     | inr e ↦
-        let same : k ≡ l = same_some k l (sym is ∙ sym (ap (slice_get (rows_at b.out.items s.place)) e) ∙ at_m) in
+        let same : k ≡ l = same_some k l (sym is ∙ sym (ap (slice_get (rows_at b.out.lists.items s.place)) e) ∙ at_m) in
         closed s r f.here (subst (λ z. slice_get b.rows.items z ≡ Some r) (sym same) row) leaves
     | inl before ↦
         let old = f.rows m l r before at_m row leaves in
@@ -145,7 +145,7 @@ followed_more b from strict i marks marks' steps steps' s n k f h grow front is 
 
 -- Once all its rows have been followed, the step is done.
 pub followed_all : (b : Board) (from : ℕ) (strict : Bool) (i : ℕ) (marks : List ℕ) (steps : List Step) (s : Step) (n : ℕ) → IsSound b →
-    IsFollowed b from strict i marks steps s n → length (rows_at b.out.items s.place) ≤ n → IsSpread b from strict (i + 1) marks steps
+    IsFollowed b from strict i marks steps s n → length (rows_at b.out.lists.items s.place) ≤ n → IsSpread b from strict (i + 1) marks steps
 followed_all b from strict i marks steps s n sound f all =
     let h = f.spread in
     record {
@@ -164,9 +164,9 @@ followed_all b from strict i marks steps s n sound f all =
             let same : s ≡ t = same_some s t (sym f.here ∙ sym (ap (slice_get steps) e) ∙ is) in
             let way : r.left ≡ s.place = leaves ∙ ap (λ z. z.place) (sym same) in
             let has = sound.listed k r row in
-            let listed : Contains (rows_at b.out.items s.place) k = subst (λ p. Contains (rows_at b.out.items p) k) way has in
-            let lt : listed.0 < length (rows_at b.out.items s.place) = listed.1 in
-            let got_it = got (rows_at b.out.items s.place) listed.0 k lt (sym listed.2) in
+            let listed : Contains (rows_at b.out.lists.items s.place) k = subst (λ p. Contains (rows_at b.out.lists.items p) k) way has in
+            let lt : listed.0 < length (rows_at b.out.lists.items s.place) = listed.1 in
+            let got_it = got (rows_at b.out.lists.items s.place) listed.0 k lt (sym listed.2) in
             let c = f.rows listed.0 k r (omega arith) got_it row way in
             subst (λ z. mark_of (z.strict || r.tagged.constraint.strict) ≤ at marks r.right) same c
       ];

@@ -8,19 +8,19 @@ use Rattle.std.proofs.lemmas.List.Elements.{Contains-append_left, Contains-appen
 use Rattle.cic_names.specs.declared.level.LevelName.{LevelName}
 use Rattle.cic_names.specs.declared.level.Level.{Level}
 use Rattle.cic_names.specs.declared.level.Level.TheVariants.{Set, Named}
-use Rattle.univ_graph.specs.declared.cycle.Tag.TheVariants.{Levels}
+use Rattle.univ_parts.specs.declared.cycle.Tag.TheVariants.{Levels}
 use Rattle.cic_rules.specs.Numbering.{Chain}
-use Rattle.univ_graph.specs.declared.cycle.Tagged.{Tagged}
+use Rattle.univ_parts.specs.declared.cycle.Tagged.{Tagged}
 use Rattle.univ_graph.specs.declared.board.Row.{Row}
 use Rattle.univ_graph.specs.declared.board.Board.{Board}
 use Rattle.univ_graph.specs.declared.spread.Step.{Step}
-use Rattle.univ_graph.specs.Numbers.{constraints}
-use Rattle.univ_graph.specs.Walks.{has_strict, IsClosedAt, IsPartOf}
-use Rattle.univ_graph.specs.Places.{level_at}
+use Rattle.univ_parts.specs.Numbers.{constraints}
+use Rattle.univ_parts.specs.Walks.{has_strict, IsClosedAt, IsPartOf}
+use Rattle.univ_parts.specs.Places.{level_at}
 use Rattle.univ_graph.specs.Kept.{AreStepsAmong}
 use Rattle.univ_graph.specs.Boards.{IsSound, IsSpread, IsConflictWalk, tagged}
-use Rattle.univ_graph.proofs.Places.{same_some}
-use Rattle.univ_graph.proofs.WalkLaws.{one_member}
+use Rattle.univ_parts.proofs.AtPlaces.{same_some}
+use Rattle.univ_parts.proofs.WalkLaws.{one_member}
 
 -- The steps to a list of tagged constraints, of which the last is the first of the way.
 pub record IsWayBack (b : Board) (steps : List Step) (goal : Level) (j : ℕ) (back : List Tagged) : Type 0 where

@@ -1,26 +1,28 @@
 -- What a whole graph answers: its numbers are a witness, a constraint that it takes leaves it whole, and a cycle shows that none could be taken.
 -- The public contract on constraints rests on these.
 use Rattle.std.proofs.Common.{◌≡◌, ◌∙◌, ◌⊎◌, inl, inr, ◌<◌, ◌≤◌, ◌+◌, ◌^◌, ℕ, zero, suc, List, [], ◌∷◌, ◌++◌, length, true, refl, ap, sym, subst, arith}
-use Rattle.std.specs.Prelude.{Some, Contains, slice_index_or, Result, Ok, Err, OnOk, OnErr, IfErr}
+use Rattle.std.specs.Prelude.{Option, Some, None, Contains, slice_index_or, Result, Ok, Err, OnOk, OnErr, IfErr}
 use Rattle.cic_names.specs.declared.level.LevelName.{LevelName}
 use Rattle.cic_names.specs.declared.level.Level.{Level}
 use Rattle.cic_names.specs.declared.level.Level.TheVariants.{Set, Named}
 use Rattle.cic_names.specs.declared.constraint.Constraint.{Constraint}
 use Rattle.cic_rules.specs.Sameness.{same_level_name}
 use Rattle.cic_rules.specs.Numbering.{Numbering, level_number, IsNumbering, Meets, MeetsAll, Consistent, IsCycle}
-use Rattle.univ_graph.specs.declared.cycle.Tagged.{Tagged}
-use Rattle.univ_graph.specs.declared.cycle.Tag.TheVariants as T
+use Rattle.univ_parts.specs.declared.cycle.Tagged.{Tagged}
+use Rattle.univ_parts.specs.declared.cycle.Tag.TheVariants as T
+use Rattle.univ_graph.specs.declared.board.Row.{Row}
 use Rattle.univ_graph.specs.declared.board.Board.{Board}
 use Rattle.univ_graph.specs.declared.fault.GraphFault.{GraphFault}
 use Rattle.univ_graph.specs.declared.fault.GraphFault.TheVariants.{Conflict, Limit, NoMemory}
-use Rattle.univ_graph.specs.Numbers.{constraints}
-use Rattle.univ_graph.specs.Places.{level_at}
+use Rattle.univ_parts.specs.Numbers.{constraints}
+use Rattle.univ_parts.specs.Places.{Kept, level_at, paired, rest}
 use Rattle.univ_graph.specs.Kept.{AreStepsAmong, Answers, IsWitness, with_ends, named_levels, level_count, level_limit}
-use Rattle.univ_graph.specs.Boards.{at, tagged, kept, AreNumbers, IsSound, IsWhole, IsConflictAmong}
-use Rattle.univ_graph.proofs.Sameness.{true_or_false, number_here, name_same}
-use Rattle.univ_graph.proofs.Cycles.{meets_each, meets_all, cycle_not_consistent}
-use Rattle.univ_graph.proofs.WalkLaws.{constraints_append}
-use Rattle.univ_graph.proofs.Soundness.{sound_of}
+use Rattle.univ_parts.specs.Bands.{AreBands}
+use Rattle.univ_graph.specs.Boards.{at, tagged, kept, kept_of, AreNumbers, IsSound, IsWhole, AreWhole, IsConflictAmong}
+use Rattle.univ_parts.proofs.Sameness.{true_or_false, number_here, name_same}
+use Rattle.univ_parts.proofs.Cycles.{meets_each, meets_all, cycle_not_consistent}
+use Rattle.univ_parts.proofs.WalkLaws.{constraints_append}
+use Rattle.univ_graph.proofs.Soundness.{AreLists, sound_of}
 use Rattle.univ_graph.proofs.LevelLists.{AreDistinct, distinct_from, levels_from_more, kept_numbering, kept_number, rows_meet, kept_levels}
 
 names_distinct : (b : Board) → IsWhole b → AreDistinct b.names
@@ -36,6 +38,11 @@ witness_of b h = record {
   levels = kept_levels b.names b.numbers.items h.sound.numbers ∙ h.names;
 }
 
+-- So they are before the first constraint.
+pub witness_kept : (board : Option Board) → AreWhole board → IsWitness (kept_of board)
+witness_kept None h = record { is_numbering = tt; meets = tt; levels = refl }
+witness_kept (Some b) h = witness_of b h
+
 first_numbers : AreNumbers [] (0 ∷ [])
 first_numbers = record {
   lengths = omega arith;
@@ -48,12 +55,25 @@ first_numbers = record {
     small zero = omega arith
     small (suc p) = omega arith
 
-pub whole_new : (b : Board) → b.names ≡ [] → b.numbers.items ≡ 0 ∷ [] → length b.out.items ≡ 1 → b.rows.items ≡ [] → IsWhole b
-whole_new b names numbers out rows = record {
-  sound = sound_of b [] (0 ∷ []) b.out.items [] (names, numbers, refl, rows) first_numbers (omega arith) (λ k r is. absurd (cc)) (λ k r is. absurd (cc)) (λ k r is. absurd (cc));
+no_lists : (b : Board) → length b.out.lists.items ≡ 1 → length b.into.lists.items ≡ 1 → AreLists b 1 []
+no_lists b out into = record {
+  roomy = omega arith;
+  roomy_into = omega arith;
+  listed = λ k r is. absurd (cc);
+  listed_into = λ k r is. absurd (cc);
+}
+
+pub whole_new : (b : Board) → b.names ≡ [] → b.numbers.items ≡ 0 ∷ [] → AreBands b.bands.bands.items (0 ∷ []) → length b.out.lists.items ≡ 1 → length b.into.lists.items ≡ 1 → b.rows.items ≡ [] →
+    IsWhole b
+whole_new b names numbers bands out into rows = record {
+  sound = sound_of b [] (0 ∷ []) [] (record { names_are = names; numbers_are = numbers; rows_are = rows }) first_numbers bands (no_lists b out into) (λ k r is. absurd (cc)) (λ k r is. absurd (cc));
   names = names ∙ sym (ap (λ z. named_levels (constraints (tagged z))) rows);
   few = subst (λ z. length z + 1 ≤ level_limit) (sym names) (omega arith);
 }
+
+pub kept_new : (names : List LevelName) (ns : List ℕ) (rows : List Row) → names ≡ [] → rows ≡ [] →
+    ◌≡◌ {A = Kept} (record { enforced = tagged rows; numbers = paired names (rest ns) }) (record { enforced = []; numbers = [] })
+kept_new names ns rows no_names no_rows = cc (ap (λ z. paired z (rest ns)) no_names, ap tagged no_rows)
 
 -- The names of the levels with one more constraint.
 names_with : (b : Board) (t : Tagged) → IsWhole b → named_levels (constraints (tagged b.rows.items ++ t ∷ [])) ≡ with_ends b.names t.constraint

@@ -1,29 +1,28 @@
 -- What holds of the parts of a graph: places of levels, numbers at places, rows of constraints between places.
-use Rattle.std.specs.Prelude.{◌≡◌, ℕ, zero, suc, ◌+◌, ◌^◌, ◌≤◌, ◌<◌, List, [], ◌∷◌, length, get_or, Contains, Some, slice_get, Bool, true, false, ◌||◌, max}
+use Rattle.std.specs.Prelude.{◌≡◌, ℕ, suc, ◌+◌, ◌≤◌, ◌<◌, List, [], ◌∷◌, length, Contains, Some, slice_get, Bool, true, false, ◌||◌, Option, None}
 use Rattle.std.specs.Global.{Vec}
 use Rattle.cic_names.specs.declared.level.LevelName.{LevelName}
 use Rattle.cic_rules.specs.Numbering.{MeetsAt}
 use Rattle.cic_names.specs.declared.level.Level.{Level}
 use Rattle.cic_rules.specs.Numbering.{IsCycle}
-use Rattle.univ_graph.specs.declared.cycle.Tagged.{Tagged}
+use Rattle.univ_parts.specs.declared.cycle.Tagged.{Tagged}
 use Rattle.univ_graph.specs.declared.fault.GraphFault.{GraphFault}
 use Rattle.univ_graph.specs.declared.fault.GraphFault.TheVariants.{Conflict, Limit, NoMemory}
-use Rattle.univ_graph.specs.Numbers.{constraints}
-use Rattle.univ_graph.specs.Walks.{has_strict, IsClosedAt}
+use Rattle.univ_parts.specs.Numbers.{constraints}
+use Rattle.univ_parts.specs.Walks.{has_strict, IsClosedAt}
 use Rattle.univ_graph.specs.Kept.{AreStepsAmong, named_levels, level_limit}
 use Rattle.univ_graph.specs.declared.board.Row.{Row}
 use Rattle.univ_graph.specs.declared.board.Board.{Board}
 use Rattle.univ_graph.specs.declared.spread.Step.{Step}
-use Rattle.univ_graph.specs.Places.{level_at, paired, rest, Kept}
+use Rattle.univ_parts.specs.Places.{level_at, paired, rest, Kept}
+use Rattle.univ_parts.specs.Bands.{AreBands}
+pub use Rattle.univ_parts.specs.Numbered.{at, rows_at, total}
+pub use Rattle.univ_parts.specs.Raised.{number_bound, raised, all_raised, AreInOrder}
 
 -- The constraints of the rows.
 abbrev pub tagged : List Row → List Tagged
 tagged [] = []
 tagged (r ∷ rows) = r.tagged ∷ tagged rows
-
--- The number at a place.
-abbrev pub at : List ℕ → ℕ → ℕ
-at numbers p = get_or numbers p 0
 
 -- The row is between the places of the ends of its constraint.
 abbrev pub IsTied : List LevelName → Row → Type 0
@@ -32,9 +31,6 @@ IsTied names r = (level_at names r.left ≡ Some r.tagged.constraint.left) × (l
 abbrev pub IsMet : List ℕ → Row → Type 0
 IsMet numbers r = MeetsAt r.tagged.constraint.strict (at numbers r.left) (at numbers r.right)
 
-abbrev pub number_bound : ℕ
-number_bound = 2 ^ 30
-
 -- Numbers for Set and as many named levels: Set has 0 and the others at least 1, none is above the bound.
 pub record AreNumbers (names : List LevelName) (numbers : List ℕ) : Type 0 where
   pub lengths : length numbers ≡ length names + 1
@@ -42,22 +38,28 @@ pub record AreNumbers (names : List LevelName) (numbers : List ℕ) : Type 0 whe
   pub positive : (p : ℕ) → suc p < length numbers → 1 ≤ at numbers (suc p)
   pub bounded : (p : ℕ) → at numbers p ≤ number_bound
 
--- The rows that stand in the list of a place.
-abbrev pub rows_at : List (Vec ℕ) → ℕ → List ℕ
-rows_at [] p = []
-rows_at (v ∷ out) zero = v.items
-rows_at (v ∷ out) (suc p) = rows_at out p
+-- The places of a row from the side of a search: upwards it goes from the left one to the right one.
+abbrev pub near : Bool → Row → ℕ
+near true r = r.left
+near false r = r.right
 
--- Each row is in the list of the place at its left.
-abbrev pub AreListed : List (Vec ℕ) → List Row → Type 0
-AreListed out rows = (k : ℕ) (r : Row) → slice_get rows k ≡ Some r → Contains (rows_at out r.left) k
+abbrev pub far : Bool → Row → ℕ
+far true r = r.right
+far false r = r.left
+
+-- Each row is in the list of the place at its near end.
+abbrev pub AreListed : Bool → List (Vec ℕ) → List Row → Type 0
+AreListed up lists rows = (k : ℕ) (r : Row) → slice_get rows k ≡ Some r → Contains (rows_at lists (near up r)) k
 
 pub record IsSound (b : Board) : Type 0 where
   pub numbers : AreNumbers b.names b.numbers.items
-  pub roomy : length b.numbers.items ≤ length b.out.items
+  pub bands : AreBands b.bands.bands.items b.numbers.items
+  pub roomy : length b.numbers.items ≤ length b.out.lists.items
+  pub roomy_into : length b.numbers.items ≤ length b.into.lists.items
   pub tied : (k : ℕ) (r : Row) → slice_get b.rows.items k ≡ Some r → IsTied b.names r
   pub met : (k : ℕ) (r : Row) → slice_get b.rows.items k ≡ Some r → IsMet b.numbers.items r
-  pub listed : AreListed b.out.items b.rows.items
+  pub listed : AreListed true b.out.lists.items b.rows.items
+  pub listed_into : AreListed false b.into.lists.items b.rows.items
 
 -- What the parts keep.
 abbrev pub kept : Board → Kept
@@ -69,10 +71,6 @@ kept b = record { enforced = tagged b.rows.items; numbers = paired b.names (rest
 abbrev pub mark_of : Bool → ℕ
 mark_of true = 2
 mark_of false = 1
-
-abbrev pub total : List ℕ → ℕ
-total [] = 0
-total (m ∷ marks) = m + total marks
 
 -- A step leads along a row from a step before it.
 pub record IsLinked (rows : List Row) (steps : List Step) (j : ℕ) (s : Step) : Type 0 where
@@ -104,28 +102,10 @@ pub record IsSpread (b : Board) (from : ℕ) (strict : Bool) (done : ℕ) (marks
 
 -- ---- raised numbers
 
--- A number after a place has been reached.
-abbrev pub raised : ℕ → (number mark : ℕ) → ℕ
-raised least n zero = n
-raised least n (suc zero) = max n least
-raised least n (suc (suc m)) = n + least
-
 -- The least number that the right end of a constraint may have.
 abbrev pub least_of : Bool → ℕ → ℕ
 least_of true n = n + 1
 least_of false n = n
-
-abbrev pub all_raised : ℕ → (numbers marks : List ℕ) → List ℕ
-all_raised least [] marks = []
-all_raised least (n ∷ numbers) [] = []
-all_raised least (n ∷ numbers) (m ∷ marks) = raised least n m ∷ all_raised least numbers marks
-
--- The second numbers stand to each other as the first ones.
-pub record AreInOrder (before after : List ℕ) : Type 0 where
-  pub lengths : length after ≡ length before
-  pub order : (b : Bool) (p q : ℕ) → p < length before → q < length before → MeetsAt b (at before p) (at before q) → MeetsAt b (at after p) (at after q)
-  pub set : at before 0 ≡ 0 → at after 0 ≡ 0
-  pub bounded : (p : ℕ) → at after p ≤ number_bound
 
 -- ---- conflicts
 
@@ -153,3 +133,13 @@ pub record IsWhole (b : Board) : Type 0 where
   pub sound : IsSound b
   pub names : b.names ≡ named_levels (constraints (tagged b.rows.items))
   pub few : length b.names + 1 ≤ level_limit
+
+-- A graph has its parts from its first constraint on.
+abbrev pub AreWhole : Option Board → Type 0
+AreWhole None = Unit {0}
+AreWhole (Some b) = IsWhole b
+
+-- What a graph keeps.
+abbrev pub kept_of : Option Board → Kept
+kept_of None = record { enforced = []; numbers = [] }
+kept_of (Some b) = kept b

@@ -1,5 +1,5 @@
 -- What a universe graph keeps, and what it answers for one more constraint.
-use Rattle.std.specs.Prelude.{◌≡◌, ◌⊎◌, ℕ, ◌+◌, ◌^◌, ◌<◌, ◌≤◌, List, [], ◌∷◌, ◌++◌, length, Contains, true, if◌then◌else◌, Result, Ok, Err}
+use Rattle.std.specs.Prelude.{◌≡◌, ◌⊎◌, ℕ, ◌+◌, ◌<◌, ◌≤◌, List, [], ◌∷◌, ◌++◌, length, Contains, true, if◌then◌else◌, Result, Ok, Err}
 use Rattle.cic_names.specs.declared.level.LevelName.{LevelName}
 use Rattle.cic_names.specs.declared.level.Level.{Level}
 use Rattle.cic_names.specs.declared.level.Level.TheVariants.{Set, Named}
@@ -7,12 +7,13 @@ use Rattle.cic_names.specs.declared.constraint.Constraint.{Constraint}
 use Rattle.cic_names.specs.Orders.{insert_constraint}
 use Rattle.cic_rules.specs.Sameness.{same_level_name}
 use Rattle.cic_rules.specs.Numbering.{Numbering, Consistent, IsNumbering, MeetsAll, IsCycle}
-use Rattle.univ_graph.specs.declared.cycle.Tagged.{Tagged}
-use Rattle.univ_graph.specs.declared.cycle.Tag.TheVariants.{Levels}
+use Rattle.univ_parts.specs.declared.cycle.Tagged.{Tagged}
+use Rattle.univ_parts.specs.declared.cycle.Tag.TheVariants.{Levels}
 use Rattle.univ_graph.specs.declared.fault.GraphFault.{GraphFault}
 use Rattle.univ_graph.specs.declared.fault.GraphFault.TheVariants.{Conflict, Limit, NoMemory}
-use Rattle.univ_graph.specs.Numbers.{constraints}
-pub use Rattle.univ_graph.specs.Places.{Kept}
+use Rattle.univ_parts.specs.Numbers.{constraints}
+pub use Rattle.univ_parts.specs.Places.{Kept}
+pub use Rattle.univ_parts.specs.Raised.{level_limit}
 
 -- The named levels among the ends of constraints, each once, in the order in which they come.
 abbrev pub with_name : List LevelName → LevelName → List LevelName
@@ -36,9 +37,6 @@ named_levels = levels_from []
 -- How many levels constraints have: Set and the named ends. At most 2^20 are allowed.
 abbrev pub level_count : List Constraint → ℕ
 level_count cs = length (named_levels cs) + 1
-
-abbrev pub level_limit : ℕ
-level_limit = 2 ^ 20
 
 -- The constraint that a named level is above Set, with the tag of levels.
 abbrev pub IsAboveSet : Tagged → Type 0

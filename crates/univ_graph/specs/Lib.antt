@@ -1,6 +1,6 @@
 -- The words of the contracts on universe constraints, numberings and cycles.
-pub mod Numbers
-pub mod Walks
-pub mod Places
 pub mod Kept
 pub mod Boards
+pub mod Moves
+pub mod Plans
+pub mod Merges

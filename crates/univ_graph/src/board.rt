@@ -1,14 +1,13 @@
 //! The parts of a graph: the names of its levels, their numbers, and constraints as rows between places. Set has place 0.
-ghost use Rattle.std.specs.Prelude.{◌≡◌, ◌∷◌, ◌++◌, [], ◌≤◌, ◌<◌, length, Some, MatchOption, OnOk, OnErr, IfOk, slice_get};
+ghost use Rattle.std.specs.Prelude.{◌≡◌, ◌∷◌, ◌++◌, [], ◌≤◌, ◌<◌, length, true, false, Some, MatchOption, OnOk, OnErr, IfOk, slice_get};
 ghost use Rattle.cic_names.specs.declared.level.Level.{Level};
-ghost use Rattle.univ_graph.specs.Places.{IsAbsent, IsAbsentLevel, IsFront, level_at};
+ghost use Rattle.univ_parts.specs.Places.{IsAbsent, IsAbsentLevel, IsFront, level_at};
 ghost use Rattle.univ_graph.specs.Kept.{with_name, with_level};
-ghost use Rattle.univ_graph.specs.Boards.{IsSound, AreListed};
+ghost use Rattle.univ_graph.specs.Boards.{IsSound, IsWhole, AreListed, kept};
 
-use crate::cycle::Tagged;
-use crate::names::Names;
 use cic_names::{Level, LevelName, NoMemory};
 use std::alloc::Global;
+use univ_parts::{Bands, Names, RowLists, Tagged};
 
 /// A constraint and the places of its ends.
 #[derive(Drop)]
@@ -18,17 +17,48 @@ pub struct Row {
     pub tagged: Tagged,
 }
 
-/// The levels with their numbers, the rows, and for each place the rows that have it at their left. A list of rows
-/// may also have rows that are elsewhere, or nowhere.
+/// The levels with their numbers, the bands of these, the rows, and for each place the rows that have it at their left
+/// (`out`) and at their right (`into`).
 #[derive(Drop)]
 pub struct Board {
     pub names: Names,
     pub numbers: Vec<u32>,
-    pub out: Vec<Vec<usize>>,
+    pub bands: Bands,
+    pub out: RowLists,
+    pub into: RowLists,
     pub rows: Vec<Row>,
 }
 
+fn one_list(alloc: Global) -> Result<RowLists, NoMemory>
+    ensures { IfOk result (λ l. length l.lists.items ≡ 1) }
+{
+    let mut lists = Vec::new(alloc);
+    match lists.push(Vec::new(alloc)) {
+        Ok(()) => Ok(RowLists { lists }),
+        Err(_) => Err(NoMemory),
+    }
+}
+
 impl Board {
+    /// A board of Set alone.
+    pub fn new(alloc: Global) -> Result<Board, NoMemory>
+        ensures whole { IfOk result IsWhole }
+        ensures empty { IfOk result (λ b. kept b ≡ record { enforced = []; numbers = [] }) }
+    {
+        let mut numbers = Vec::new(alloc);
+        if numbers.push(0).is_err() {
+            return Err(NoMemory);
+        }
+        Ok(Board {
+            names: Names::new(alloc),
+            numbers,
+            bands: Bands::new(alloc)?,
+            out: one_list(alloc)?,
+            into: one_list(alloc)?,
+            rows: Vec::new(alloc),
+        })
+    }
+
     /// The place of a level.
     pub fn place_of(&self, level: &Level) -> Option<usize>
         ensures { MatchOption result (IsAbsentLevel level.now self.now.names) (λ p. level_at self.now.names p ≡ Some level.now) }
@@ -45,15 +75,12 @@ impl Board {
         ensures rows { self.new.rows.items ≡ self.old.rows.items }
         ensures names { self.new.names ≡ self.old.names }
         ensures numbers { self.new.numbers.items ≡ self.old.numbers.items }
-        ensures room { OnOk result (length self.new.numbers.items < length self.new.out.items) }
+        ensures room { OnOk result (length self.new.numbers.items < length self.new.out.lists.items) }
+        ensures room_into { OnOk result (length self.new.numbers.items < length self.new.into.lists.items) }
     {
-        if self.out.len() > self.numbers.len() {
-            return Ok(());
-        }
-        match self.out.push(Vec::new(alloc)) {
-            Ok(()) => Ok(()),
-            Err(_) => Err(NoMemory),
-        }
+        let places = self.numbers.len();
+        self.out.make_room(alloc, places)?;
+        self.into.make_room(alloc, places)
     }
 
     fn add_name(&mut self, alloc: Global, name: &LevelName) -> Result<usize, NoMemory>
@@ -99,21 +126,25 @@ impl Board {
 
     /// Puts a row behind the others.
     pub fn append(&mut self, row: Row) -> Result<(), NoMemory>
-        requires listed { AreListed self.old.out.items self.old.rows.items }
-        requires within { row.left < length self.old.out.items }
-        ensures listed { AreListed self.new.out.items self.new.rows.items }
-        ensures room { length self.new.out.items ≡ length self.old.out.items }
+        requires listed { AreListed true self.old.out.lists.items self.old.rows.items }
+        requires listed_into { AreListed false self.old.into.lists.items self.old.rows.items }
+        requires left { row.left < length self.old.out.lists.items }
+        requires right { row.right < length self.old.into.lists.items }
+        ensures listed { AreListed true self.new.out.lists.items self.new.rows.items }
+        ensures listed_into { AreListed false self.new.into.lists.items self.new.rows.items }
+        ensures room { length self.new.out.lists.items ≡ length self.old.out.lists.items }
+        ensures room_into { length self.new.into.lists.items ≡ length self.old.into.lists.items }
+        ensures bands { self.new.bands.bands.items ≡ self.old.bands.bands.items }
         ensures rows { OnOk result (self.new.rows.items ≡ self.old.rows.items ++ row ∷ []) }
         ensures same { OnErr result (self.new.rows.items ≡ self.old.rows.items) }
         ensures names { self.new.names ≡ self.old.names }
         ensures numbers { self.new.numbers.items ≡ self.old.numbers.items }
     {
         let place = self.rows.len();
-        match self.out[row.left].push(place) {
-            Ok(()) => match self.rows.push(row) {
-                Ok(()) => Ok(()),
-                Err(_) => Err(NoMemory),
-            },
+        self.out.put(row.left, place)?;
+        self.into.put(row.right, place)?;
+        match self.rows.push(row) {
+            Ok(()) => Ok(()),
             Err(_) => Err(NoMemory),
         }
     }

@@ -1,18 +1,18 @@
 //! Walks that show a conflict: from a constraint along steps back to its left end.
 ghost use Rattle.std.specs.Prelude.{◌≡◌, ℕ, ◌<◌, ◌≤◌, ◌++◌, ◌∷◌, [], length, true, IfOk, IfErr, MatchOption, Some, slice_get};
 ghost use Rattle.univ_graph.specs.Boards.{IsSound, IsSpread, IsTied, IsConflictWalk, IsConflictAmong, tagged};
-ghost use Rattle.univ_graph.specs.Places.{level_at};
+ghost use Rattle.univ_parts.specs.Places.{level_at};
 ghost use Rattle.univ_graph.specs.declared.spread.Step.{Step};
 ghost use Rattle.cic_names.specs.declared.level.Level.{Level};
 ghost use Rattle.cic_names.specs.declared.level.Level.TheVariants as L;
-ghost use Rattle.univ_graph.specs.declared.cycle.Tag.TheVariants as G;
+ghost use Rattle.univ_parts.specs.declared.cycle.Tag.TheVariants as G;
 
 use crate::board::Board;
-use crate::cycle::{Cycle, Tag, Tagged};
 use crate::fault::GraphFault;
 use crate::spread::{Spread, Step};
 use cic_names::{Constraint, Level, LevelName, NoMemory};
 use std::alloc::Global;
+use univ_parts::{Cycle, Tag, Tagged};
 
 /// The first step that reaches the place past a strict constraint.
 pub fn strict_step(steps: &[Step], place: usize) -> Option<usize>

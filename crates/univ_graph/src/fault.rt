@@ -1,5 +1,5 @@
 //! Why a graph does not take a constraint.
-use crate::cycle::Cycle;
+use univ_parts::Cycle;
 
 /// Why a constraint was not enforced. The graph is as it was before.
 #[derive(Debug, Drop)]

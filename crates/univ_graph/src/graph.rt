@@ -1,61 +1,62 @@
 //! A graph of universe constraints: what was enforced, and numbers for its levels that meet it.
 use crate::board::Board;
-use crate::cycle::{Tag, Tagged};
 use crate::fault::GraphFault;
-use crate::names::Names;
-use crate::numbers::LevelNumber;
+use crate::moving::Manner;
 use cic_names::{Constraint, Constraints, Level, NoMemory};
 use std::alloc::Global;
 use std::marker::Model;
-
-/// The greatest number of levels, Set among them.
-const LEVEL_LIMIT: u32 = 1 << 20;
+use univ_parts::{LevelNumber, Tag, level_number};
 
 /// Universe constraints that were enforced with their tags, and a number for each of their levels. Contracts see the
-/// tagged constraints in order and the numbering that is kept.
+/// tagged constraints in order and the numbering that is kept. The board is made for the first constraint.
 #[derive(Drop)]
 pub struct Graph {
     alloc: Global,
-    board: Board,
+    board: Option<Board>,
 }
 
 impl Model for Graph {
-    ghost use Rattle.univ_graph.specs.Places.{Kept};
-    ghost use Rattle.univ_graph.specs.Boards.{kept, IsWhole};
+    ghost use Rattle.univ_parts.specs.Places.{Kept};
+    ghost use Rattle.univ_graph.specs.Boards.{kept_of, AreWhole};
 
     ghost Value = { Kept };
 
-    ghost view = { λ g. kept g.board };
+    ghost view = { λ g. kept_of g.board };
 
-    ghost invariant = { λ g. IsWhole g.board };
+    ghost invariant = { λ g. AreWhole g.board };
 }
 
 impl Graph {
     ghost use Rattle.std.specs.Prelude.{◌≡◌, ◌↔◌, IsTrue, IfOk, []};
     ghost use Rattle.cic_rules.specs.Numbering as rules;
     ghost use Rattle.univ_graph.specs.Kept.{Answers, IsWitness, constraint_set};
-    ghost use Rattle.univ_graph.specs.Numbers.{numbering, constraints};
+    ghost use Rattle.univ_parts.specs.Numbers.{numbering, constraints};
 
     /// A graph with no constraints.
-    pub fn new(alloc: Global) -> Result<Graph, NoMemory>
-        ensures { IfOk result (λ g. g ≡ record { enforced = []; numbers = [] }) }
+    pub fn new(alloc: Global) -> Graph
+        ensures { result ≡ record { enforced = []; numbers = [] } }
     {
-        let mut numbers = Vec::new(alloc);
-        let mut out = Vec::new(alloc);
-        if numbers.push(0).is_err() {
-            return Err(NoMemory);
-        }
-        match out.push(Vec::new(alloc)) {
-            Ok(()) => Ok(Graph {
-                alloc,
-                board: Board {
-                    names: Names::new(alloc),
-                    numbers,
-                    out,
-                    rows: Vec::new(alloc),
-                },
-            }),
-            Err(_) => Err(NoMemory),
+        Graph { alloc, board: None }
+    }
+
+    fn enforce_in(
+        &mut self,
+        constraint: &Constraint,
+        tag: Tag,
+        manner: Manner,
+    ) -> Result<(), GraphFault>
+        ensures { Answers self.old self.new (record { constraint = constraint.now; tag = tag }) result }
+    {
+        match &mut self.board {
+            Some(board) => board.enforce(self.alloc, constraint, tag, manner),
+            None => {
+                let Ok(mut board) = Board::new(self.alloc) else {
+                    return Err(GraphFault::NoMemory);
+                };
+                let answer = board.enforce(self.alloc, constraint, tag, manner);
+                self.board = Some(board);
+                answer
+            }
         }
     }
 
@@ -63,22 +64,22 @@ impl Graph {
     pub fn enforce(&mut self, constraint: &Constraint, tag: Tag) -> Result<(), GraphFault>
         ensures { Answers self.old self.new (record { constraint = constraint.now; tag = tag }) result }
     {
-        let levels = self.board.levels_with(constraint);
-        if levels > LEVEL_LIMIT {
-            return Err(GraphFault::Limit(levels));
-        }
-        let Ok(constraint) = constraint.copy() else {
-            return Err(GraphFault::NoMemory);
-        };
-        self.board.take(self.alloc, Tagged { constraint, tag })
+        self.enforce_in(constraint, tag, Manner::InGaps)
+    }
+
+    /// `enforce` by the slow body, which raises all that is reached. It keeps other numbers.
+    pub fn enforce_plainly(&mut self, constraint: &Constraint, tag: Tag) -> Result<(), GraphFault>
+        ensures { Answers self.old self.new (record { constraint = constraint.now; tag = tag }) result }
+    {
+        self.enforce_in(constraint, tag, Manner::Plainly)
     }
 
     fn number(&self, level: &Level) -> u32
         ensures { result ≡ rules.level_number self.now.numbers level.now }
     {
-        match self.board.place_of(level) {
-            Some(place) => self.board.numbers[place],
-            None => 1,
+        match &self.board {
+            Some(board) => board.number(level),
+            None => level_number(&[], level),
         }
     }
 
@@ -100,13 +101,19 @@ impl Graph {
         ensures value { IfOk result (λ v. numbering v.items ≡ self.now.numbers) }
         ensures witness { IsWitness self.now }
     {
-        self.board.numbering(self.alloc)
+        match &self.board {
+            Some(board) => board.numbering(self.alloc),
+            None => Ok(Vec::new(self.alloc)),
+        }
     }
 
     /// The set of all that was enforced.
     pub fn enforced(&self) -> Result<Constraints, NoMemory>
         ensures { IfOk result (λ s. s ≡ constraint_set (constraints self.now.enforced)) }
     {
-        self.board.enforced(self.alloc)
+        match &self.board {
+            Some(board) => board.enforced(self.alloc),
+            None => Ok(Constraints::new(self.alloc)),
+        }
     }
 }

@@ -2,29 +2,23 @@
 #![tactic(auto)]
 
 mod board;
+mod choose;
 mod conflict;
-mod cycle;
 mod fault;
 mod graph;
-mod keys;
-mod laws;
-mod names;
-mod numbers;
-mod raise;
+mod merge;
+mod moving;
+mod plan;
+mod search;
 mod settle;
+mod shift;
 mod spread;
 mod take;
 mod told;
-mod walk;
 
-pub use cycle::{Cycle, Tag, Tagged};
 pub use fault::GraphFault;
 pub use graph::Graph;
-pub use keys::is_below;
-pub use laws::{consistency_passes_to_parts, no_numbering_meets_a_cycle};
-pub use numbers::{LevelNumber, level_number, meets};
+pub use univ_parts::{Cycle, LevelNumber, Tag, Tagged};
 
 #[cfg(test)]
 mod rows;
-#[cfg(test)]
-mod tests;

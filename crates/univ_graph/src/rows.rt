@@ -1,9 +1,9 @@
-use crate::cycle::Tag;
 use crate::fault::GraphFault;
 use crate::graph::Graph;
 use cic_names::{Constraint, Level, LevelName, Name, NameFault, Part};
 use std::alloc::Global;
 use std::test::Fail;
+use univ_parts::Tag;
 
 /// A level of the library Lib, or Set.
 fn level(alloc: Global, owner: &str) -> Result<Level, NameFault> {
@@ -73,7 +73,7 @@ fn held(
 #[test]
 fn alone(rt: HostRuntime) -> Result<(), Fail> {
     let alloc = rt.alloc();
-    let mut graph = Graph::new(alloc)?;
+    let mut graph = Graph::new(alloc);
     assert_eq!(rt; enforced(&mut graph, alloc, "u", true, "u")?, 1);
     assert_eq!(rt; enforced(&mut graph, alloc, "u", false, "Set")?, 2);
     assert!(rt; graph.numbering()?.is_empty());
@@ -84,7 +84,7 @@ fn alone(rt: HostRuntime) -> Result<(), Fail> {
 #[test]
 fn two_levels(rt: HostRuntime) -> Result<(), Fail> {
     let alloc = rt.alloc();
-    let mut graph = Graph::new(alloc)?;
+    let mut graph = Graph::new(alloc);
     assert_eq!(rt; enforced(&mut graph, alloc, "u", true, "v")?, 0);
     assert_eq!(rt; enforced(&mut graph, alloc, "u", true, "v")?, 0);
     assert_eq!(rt; enforced(&mut graph, alloc, "v", true, "u")?, 2);
@@ -97,7 +97,7 @@ fn two_levels(rt: HostRuntime) -> Result<(), Fail> {
 #[test]
 fn equal_levels(rt: HostRuntime) -> Result<(), Fail> {
     let alloc = rt.alloc();
-    let mut graph = Graph::new(alloc)?;
+    let mut graph = Graph::new(alloc);
     assert_eq!(rt; enforced(&mut graph, alloc, "u", false, "v")?, 0);
     assert_eq!(rt; enforced(&mut graph, alloc, "v", false, "u")?, 0);
     assert_eq!(rt; enforced(&mut graph, alloc, "u", true, "v")?, 2);
@@ -109,7 +109,7 @@ fn equal_levels(rt: HostRuntime) -> Result<(), Fail> {
 #[test]
 fn set_on_either_side(rt: HostRuntime) -> Result<(), Fail> {
     let alloc = rt.alloc();
-    let mut graph = Graph::new(alloc)?;
+    let mut graph = Graph::new(alloc);
     assert_eq!(rt; enforced(&mut graph, alloc, "Set", true, "u")?, 0);
     assert_eq!(rt; enforced(&mut graph, alloc, "Set", false, "Set")?, 0);
     assert_eq!(rt; enforced(&mut graph, alloc, "Set", true, "Set")?, 1);
@@ -121,7 +121,7 @@ fn set_on_either_side(rt: HostRuntime) -> Result<(), Fail> {
 #[test]
 fn chain_backwards(rt: HostRuntime) -> Result<(), Fail> {
     let alloc = rt.alloc();
-    let mut graph = Graph::new(alloc)?;
+    let mut graph = Graph::new(alloc);
     let links = [("e", "f"), ("d", "e"), ("c", "d"), ("b", "c"), ("a", "b")];
     for (left, right) in links {
         assert_eq!(rt; enforced(&mut graph, alloc, left, true, right)?, 0);

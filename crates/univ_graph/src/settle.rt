@@ -1,20 +1,21 @@
 //! How a constraint is taken, between places that are there: with the numbers as they are, with raised ones, or not at all.
-ghost use Rattle.std.specs.Prelude.{◌≡◌, ℕ, ◌<◌, ◌≤◌, ◌++◌, ◌∷◌, [], length, true, IfOk, IfErr, OnOk, OnErr, Some, take, List, IsTrue, ◌↔◌, ◌+◌, ◌^◌};
+ghost use Rattle.std.specs.Prelude.{◌≡◌, ◌<◌, ◌≤◌, ◌++◌, ◌∷◌, [], length, true, IfOk, IfErr, OnOk, OnErr, Some, List, IsTrue, ◌↔◌, ◌+◌, ◌^◌};
 ghost use Rattle.cic_rules.specs.Numbering.{MeetsAt};
 ghost use Rattle.cic_names.specs.declared.level.Level.{Level};
-ghost use Rattle.univ_graph.specs.Kept.{AreStepsAmong};
-ghost use Rattle.univ_graph.specs.Walks.{IsClosedAt, has_strict};
-ghost use Rattle.univ_graph.specs.declared.cycle.Tagged.{Tagged};
-ghost use Rattle.univ_graph.specs.Places.{level_at};
-ghost use Rattle.univ_graph.specs.Boards.{IsSound, IsConflictWalk, IsConflictAmong, AreRaised, at, tagged, least_of, number_bound};
+ghost use Rattle.univ_graph.specs.Kept.{AreStepsAmong, level_limit};
+ghost use Rattle.univ_parts.specs.Walks.{IsClosedAt, has_strict};
+ghost use Rattle.univ_parts.specs.declared.cycle.Tagged.{Tagged};
+ghost use Rattle.univ_parts.specs.Places.{level_at};
+ghost use Rattle.univ_graph.specs.Boards.{IsSound, IsConflictAmong, AreRaised, at, tagged, least_of};
+ghost use Rattle.univ_parts.specs.Bands.{AreClose};
 
 use crate::board::{Board, Row};
 use crate::conflict::{strict_step, walk_at_set};
-use crate::cycle::{Cycle, Tagged};
 use crate::fault::GraphFault;
-use crate::raise::{fit, raise};
+use crate::moving::Manner;
 use cic_names::{Level, NoMemory};
 use std::alloc::Global;
+use univ_parts::{Bands, Cycle, Tagged, close, raise};
 
 fn meets_at(strict: bool, left: u32, right: u32) -> bool
     ensures { IsTrue result ↔ MeetsAt strict left right }
@@ -53,9 +54,10 @@ impl Board {
         requires sound { IsSound self.now }
         requires left { level_at self.now.names left ≡ Some asked.now.constraint.left }
         requires right { level_at self.now.names right ≡ Some asked.now.constraint.right }
-        requires few { length self.now.names + 1 ≤ number_bound }
+        requires few { length self.now.names + 1 ≤ level_limit }
         requires not_met { MeetsAt asked.now.constraint.strict (at self.now.numbers.items left) (at self.now.numbers.items right) → ⊥ }
         ensures raised { IfOk result (λ v. AreRaised self.now left right asked.now.constraint.strict v.items) }
+        ensures close { IfOk result (λ v. AreClose v.items) }
         ensures conflict { IfErr result (IsConflictAmong (tagged self.now.rows.items ++ asked.now ∷ [])) }
     {
         if right == 0 {
@@ -74,7 +76,7 @@ impl Board {
         let Ok(numbers) = raise(alloc, &self.numbers, &spread.marks, least) else {
             return Err(GraphFault::NoMemory);
         };
-        match fit(alloc, numbers) {
+        match close(alloc, numbers.as_slice()) {
             Ok(numbers) => Ok(numbers),
             Err(_) => Err(GraphFault::NoMemory),
         }
@@ -101,6 +103,7 @@ impl Board {
 
     fn put_raised(
         &mut self,
+        alloc: Global,
         left: usize,
         right: usize,
         asked: Tagged,
@@ -110,23 +113,48 @@ impl Board {
         requires left { level_at self.old.names left ≡ Some asked.constraint.left }
         requires right { level_at self.old.names right ≡ Some asked.constraint.right }
         requires raised { AreRaised self.old left right asked.constraint.strict numbers.items }
+        requires close { AreClose numbers.items }
         ensures sound { IsSound self.new }
         ensures names { self.new.names ≡ self.old.names }
         ensures taken { OnOk result (tagged self.new.rows.items ≡ tagged self.old.rows.items ++ asked ∷ []) }
         ensures rows { OnErr result (self.new.rows.items ≡ self.old.rows.items) }
         ensures numbers { OnErr result (self.new.numbers.items ≡ self.old.numbers.items) }
     {
+        let bands = Bands::of_close(alloc)?;
         let row = Row {
             left,
             right,
             tagged: asked,
         };
-        match self.append(row) {
-            Ok(()) => {
-                self.numbers = numbers;
-                Ok(())
-            }
-            Err(_) => Err(NoMemory),
+        self.append(row)?;
+        self.numbers = numbers;
+        self.bands = bands;
+        Ok(())
+    }
+
+    fn settle_plainly(
+        &mut self,
+        alloc: Global,
+        left: usize,
+        right: usize,
+        asked: Tagged,
+    ) -> Result<(), GraphFault>
+        requires sound { IsSound self.old }
+        requires left { level_at self.old.names left ≡ Some asked.constraint.left }
+        requires right { level_at self.old.names right ≡ Some asked.constraint.right }
+        requires few { length self.old.names + 1 ≤ level_limit }
+        requires not_met { MeetsAt asked.constraint.strict (at self.old.numbers.items left) (at self.old.numbers.items right) → ⊥ }
+        ensures sound { IsSound self.new }
+        ensures names { self.new.names ≡ self.old.names }
+        ensures taken { OnOk result (tagged self.new.rows.items ≡ tagged self.old.rows.items ++ asked ∷ []) }
+        ensures rows { OnErr result (self.new.rows.items ≡ self.old.rows.items) }
+        ensures numbers { OnErr result (self.new.numbers.items ≡ self.old.numbers.items) }
+        ensures conflict { IfErr result (IsConflictAmong (tagged self.old.rows.items ++ asked ∷ [])) }
+    {
+        let numbers = self.raised(alloc, left, right, &asked)?;
+        match self.put_raised(alloc, left, right, asked, numbers) {
+            Ok(()) => Ok(()),
+            Err(_) => Err(GraphFault::NoMemory),
         }
     }
 
@@ -137,11 +165,12 @@ impl Board {
         left: usize,
         right: usize,
         asked: Tagged,
+        manner: Manner,
     ) -> Result<(), GraphFault>
         requires sound { IsSound self.old }
         requires left { level_at self.old.names left ≡ Some asked.constraint.left }
         requires right { level_at self.old.names right ≡ Some asked.constraint.right }
-        requires few { length self.old.names + 1 ≤ number_bound }
+        requires few { length self.old.names + 1 ≤ level_limit }
         ensures sound { IsSound self.new }
         ensures names { self.new.names ≡ self.old.names }
         ensures taken { OnOk result (tagged self.new.rows.items ≡ tagged self.old.rows.items ++ asked ∷ []) }
@@ -149,18 +178,21 @@ impl Board {
         ensures numbers { OnErr result (self.new.numbers.items ≡ self.old.numbers.items) }
         ensures conflict { IfErr result (IsConflictAmong (tagged self.old.rows.items ++ asked ∷ [])) }
     {
-        if meets_at(
-            asked.constraint.strict,
-            self.numbers[left],
-            self.numbers[right],
-        ) {
+        let (n, m) = (self.numbers[left], self.numbers[right]);
+        if meets_at(asked.constraint.strict, n, m) {
             return match self.put(left, right, asked) {
                 Ok(()) => Ok(()),
                 Err(_) => Err(GraphFault::NoMemory),
             };
         }
-        let numbers = self.raised(alloc, left, right, &asked)?;
-        match self.put_raised(left, right, asked, numbers) {
+        let strict = asked.constraint.strict;
+        let Ok(found) = self.renumbering(alloc, left, right, strict, manner) else {
+            return Err(GraphFault::NoMemory);
+        };
+        let Some(found) = found else {
+            return self.settle_plainly(alloc, left, right, asked);
+        };
+        match self.put_renumbered(left, right, asked, &found) {
             Ok(()) => Ok(()),
             Err(_) => Err(GraphFault::NoMemory),
         }

@@ -3,7 +3,7 @@ ghost use Rattle.std.specs.Prelude.{◌≡◌, ℕ, ◌+◌, ◌<◌, ◌≤◌,
 ghost use Rattle.univ_graph.specs.Boards.{IsSound, IsSpread, IsLinked, IsClosedBy, at, mark_of};
 ghost use Rattle.univ_graph.specs.declared.board.Row.{Row};
 ghost use Rattle.univ_graph.specs.declared.spread.Step.{Step};
-ghost use Rattle.univ_graph.specs.Places.{IsFront};
+ghost use Rattle.univ_parts.specs.Places.{IsFront};
 
 use crate::board::Board;
 use cic_names::NoMemory;
@@ -103,7 +103,7 @@ impl Board {
         ensures spread { OnOk result (IsSpread self.now from strict (i + 1) spread.new.marks.items spread.new.steps.items) }
     {
         let place = spread.steps[i].place;
-        for k in &self.out[place] {
+        for k in &self.out.lists[place] {
             self.follow_row(spread, i, *k, from, strict)?;
         }
         Ok(())

@@ -1,14 +1,18 @@
 //! How a constraint is taken with its levels, or all is put back.
 ghost use Rattle.std.specs.Prelude.{◌≡◌, ◌+◌, ◌≤◌, ◌++◌, ◌∷◌, [], length, OnOk, OnErr, IfErr};
-ghost use Rattle.univ_graph.specs.Kept.{with_ends, level_limit};
-ghost use Rattle.univ_graph.specs.Places.{IsFront, count_one};
-ghost use Rattle.univ_graph.specs.Boards.{IsSound, IsConflictAmong, kept, tagged, number_bound};
+ghost use Rattle.univ_graph.specs.Kept.{Answers, with_ends, level_limit};
+ghost use Rattle.univ_parts.specs.Places.{IsFront, count_one};
+ghost use Rattle.univ_graph.specs.Boards.{IsSound, IsWhole, IsConflictAmong, kept, tagged};
 
 use crate::board::Board;
-use crate::cycle::Tagged;
 use crate::fault::GraphFault;
+use crate::moving::Manner;
 use cic_names::Constraint;
 use std::alloc::Global;
+use univ_parts::{Tag, Tagged};
+
+/// The greatest number of levels, Set among them.
+const LEVEL_LIMIT: u32 = 1 << 20;
 
 fn count_one(place: Option<usize>) -> u32
     ensures value { result ≡ count_one place }
@@ -21,9 +25,9 @@ fn count_one(place: Option<usize>) -> u32
 }
 
 impl Board {
-    fn try_take(&mut self, alloc: Global, asked: Tagged) -> Result<(), GraphFault>
+    fn try_take(&mut self, alloc: Global, asked: Tagged, manner: Manner) -> Result<(), GraphFault>
         requires sound { IsSound self.old }
-        requires few { length (with_ends self.old.names asked.constraint) + 1 ≤ number_bound }
+        requires few { length (with_ends self.old.names asked.constraint) + 1 ≤ level_limit }
         ensures sound { IsSound self.new }
         ensures names { OnOk result (self.new.names ≡ with_ends self.old.names asked.constraint) }
         ensures taken { OnOk result (tagged self.new.rows.items ≡ tagged self.old.rows.items ++ asked ∷ []) }
@@ -38,13 +42,13 @@ impl Board {
         let Ok(right) = self.intern(alloc, &asked.constraint.right) else {
             return Err(GraphFault::NoMemory);
         };
-        self.settle(alloc, left, right, asked)
+        self.settle(alloc, left, right, asked, manner)
     }
 
     /// Takes a constraint with its levels, or is as before.
-    pub fn take(&mut self, alloc: Global, asked: Tagged) -> Result<(), GraphFault>
+    pub fn take(&mut self, alloc: Global, asked: Tagged, manner: Manner) -> Result<(), GraphFault>
         requires sound { IsSound self.old }
-        requires few { length (with_ends self.old.names asked.constraint) + 1 ≤ number_bound }
+        requires few { length (with_ends self.old.names asked.constraint) + 1 ≤ level_limit }
         ensures sound { IsSound self.new }
         ensures names { OnOk result (self.new.names ≡ with_ends self.old.names asked.constraint) }
         ensures taken { OnOk result (tagged self.new.rows.items ≡ tagged self.old.rows.items ++ asked ∷ []) }
@@ -54,7 +58,7 @@ impl Board {
         ensures conflict { IfErr result (IsConflictAmong (tagged self.old.rows.items ++ asked ∷ [])) }
     {
         let known = self.names.names().len();
-        match self.try_take(alloc, asked) {
+        match self.try_take(alloc, asked, manner) {
             Ok(()) => Ok(()),
             Err(fault) => {
                 self.names.truncate(known);
@@ -75,5 +79,27 @@ impl Board {
             return known + left;
         }
         known + left + count_one(self.place_of(&constraint.right))
+    }
+
+    /// Takes a constraint where a numbering meets all that was enforced and it, and the levels are at most 2^20.
+    pub fn enforce(
+        &mut self,
+        alloc: Global,
+        constraint: &Constraint,
+        tag: Tag,
+        manner: Manner,
+    ) -> Result<(), GraphFault>
+        requires { IsWhole self.old }
+        ensures whole { IsWhole self.new }
+        ensures answer { Answers (kept self.old) (kept self.new) (record { constraint = constraint.now; tag = tag }) result }
+    {
+        let levels = self.levels_with(constraint);
+        if levels > LEVEL_LIMIT {
+            return Err(GraphFault::Limit(levels));
+        }
+        let Ok(constraint) = constraint.copy() else {
+            return Err(GraphFault::NoMemory);
+        };
+        self.take(alloc, Tagged { constraint, tag }, manner)
     }
 }

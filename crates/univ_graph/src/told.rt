@@ -1,16 +1,28 @@
-//! What a graph keeps, told as lists.
+//! What a graph keeps, told as numbers and lists.
 ghost use Rattle.std.specs.Prelude.{◌≡◌, ◌+◌, length, IfOk};
 ghost use Rattle.univ_graph.specs.Kept.{constraint_set};
-ghost use Rattle.univ_graph.specs.Numbers.{numbering, constraints};
-ghost use Rattle.univ_graph.specs.Places.{paired, rest};
-ghost use Rattle.univ_graph.specs.Boards.{tagged};
+ghost use Rattle.univ_parts.specs.Numbers.{numbering, constraints};
+ghost use Rattle.univ_parts.specs.Places.{paired, rest};
+ghost use Rattle.univ_graph.specs.Boards.{tagged, kept, IsWhole};
+ghost use Rattle.cic_rules.specs.Numbering as rules;
 
 use crate::board::Board;
-use crate::numbers::LevelNumber;
-use cic_names::{Constraints, NoMemory};
+use cic_names::{Constraints, Level, NoMemory};
 use std::alloc::Global;
+use univ_parts::LevelNumber;
 
 impl Board {
+    /// The number of a level: 0 for Set, and 1 for a named level that is not there.
+    pub fn number(&self, level: &Level) -> u32
+        requires { IsWhole self.now }
+        ensures { result ≡ rules.level_number (kept self.now).numbers level.now }
+    {
+        match self.place_of(level) {
+            Some(place) => self.numbers[place],
+            None => 1,
+        }
+    }
+
     /// The named levels with their numbers.
     pub fn numbering(&self, alloc: Global) -> Result<Vec<LevelNumber>, NoMemory>
         requires { length self.now.numbers.items ≡ length self.now.names + 1 }

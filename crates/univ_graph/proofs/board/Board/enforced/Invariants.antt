@@ -1,7 +1,7 @@
 -- The set so far, into which the rest goes.
 use Rattle.std.proofs.Common.{◌≡◌, drop}
 use Rattle.univ_graph.specs.Kept.{constraint_set, set_from}
-use Rattle.univ_graph.specs.Numbers.{constraints}
+use Rattle.univ_parts.specs.Numbers.{constraints}
 use Rattle.univ_graph.specs.Boards.{tagged}
 use Rattle.univ_graph.proofs.board.Board.enforced.Given as goal
 

@@ -3,7 +3,7 @@ use Rattle.std.proofs.Common.{◌≡◌, ◌∙◌, ◌<◌, ◌≤◌, sym, sub
 use Rattle.std.specs.Prelude.{slice_get, Some}
 use Rattle.std.proofs.lemmas.Option.{slice_get_within, slice_get-get_or}
 use Rattle.univ_graph.specs.Boards.{rows_at}
-use Rattle.univ_graph.proofs.Places.{got, same_some, rows_at_read, at_within}
+use Rattle.univ_parts.proofs.AtPlaces.{got, same_some, rows_at_read, at_within}
 use Rattle.univ_graph.proofs.Spreading.{followed_more, followed_all}
 use Rattle.univ_graph.proofs.board.Board.follow.Goals as goal
 
@@ -13,7 +13,7 @@ index-requires-2 c =
     let here = got c.args.spread.now.steps.items c.args.i step c.requires.within c.index.ensures in
     let w = at_within c.args.self.now.numbers.items step.place (c.requires.spread.above c.args.i step here) in
     let r = c.requires.sound.roomy in
-    let lt : step.place < length c.args.self.now.out.items = omega arith in
+    let lt : step.place < length c.args.self.now.out.lists.items = omega arith in
     search rules
 
 pub loop-k-init : goal.loop-k-init
@@ -35,12 +35,12 @@ loop-k-preserved c =
     let here = got c.args.spread.now.steps.items c.args.i step c.requires.within c.index.ensures in
     let w = at_within b.numbers.items step.place (c.requires.spread.above c.args.i step here) in
     let r = c.requires.sound.roomy in
-    let lt : step.place < length b.out.items = omega arith in
-    let are : rows_at b.out.items step.place ≡ list = rows_at_read b.out.items step.place c.index-2.result.now lt c.index-2.ensures ∙ sym c.deref-k-items.ensures.value in
+    let lt : step.place < length b.out.lists.items = omega arith in
+    let are : rows_at b.out.lists.items step.place ≡ list = rows_at_read b.out.lists.items step.place c.index-2.result.now lt c.index-2.ensures ∙ sym c.deref-k-items.ensures.value in
     let s = c.loop-k.invariant.0 in
     let same : step ≡ s = same_some step s (sym here ∙ c.loop-k.invariant.1) in
-    let at_k : slice_get (rows_at b.out.items s.place) n ≡ Some k =
-    ap (λ z. slice_get (rows_at b.out.items z.place) n) (sym same) ∙ ap (λ z. slice_get z n) are ∙ slice_get-get_or list n 0 c.loop-k-test.true in (
+    let at_k : slice_get (rows_at b.out.lists.items s.place) n ≡ Some k =
+    ap (λ z. slice_get (rows_at b.out.lists.items z.place) n) (sym same) ∙ ap (λ z. slice_get z n) are ∙ slice_get-get_or list n 0 c.loop-k-test.true in (
       s,
       c.loop-k.invariant.1,
       followed_more b c.args.from c.args.strict c.args.i c.loop-k.spread.marks.items c.follow_row.new.spread.marks.items c.loop-k.spread.steps.items c.follow_row.new.spread.steps.items s n k
@@ -56,10 +56,10 @@ returns c =
     let here = got c.args.spread.now.steps.items c.args.i step c.requires.within c.index.ensures in
     let w = at_within b.numbers.items step.place (c.requires.spread.above c.args.i step here) in
     let r = c.requires.sound.roomy in
-    let lt : step.place < length b.out.items = omega arith in
-    let are : rows_at b.out.items step.place ≡ list = rows_at_read b.out.items step.place c.index-2.result.now lt c.index-2.ensures ∙ sym c.deref-k-items.ensures.value in
+    let lt : step.place < length b.out.lists.items = omega arith in
+    let are : rows_at b.out.lists.items step.place ≡ list = rows_at_read b.out.lists.items step.place c.index-2.result.now lt c.index-2.ensures ∙ sym c.deref-k-items.ensures.value in
     let s = c.loop-k.invariant.0 in
     let same : step ≡ s = same_some step s (sym here ∙ c.loop-k.invariant.1) in
-    let all : length (rows_at b.out.items s.place) ≤ n =
-    subst (λ z. length (rows_at b.out.items z.place) ≤ n) same (subst (λ z. length z ≤ n) (sym are) c.loop-k-test.false) in
+    let all : length (rows_at b.out.lists.items s.place) ≤ n =
+    subst (λ z. length (rows_at b.out.lists.items z.place) ≤ n) same (subst (λ z. length z ≤ n) (sym are) c.loop-k-test.false) in
     record { spread = followed_all b c.args.from c.args.strict c.args.i c.loop-k.spread.marks.items c.loop-k.spread.steps.items s n c.requires.sound c.loop-k.invariant.2 all }

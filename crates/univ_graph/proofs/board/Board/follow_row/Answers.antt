@@ -3,8 +3,8 @@ use Rattle.std.proofs.Common.{◌≡◌, ◌∙◌, ◌<◌, refl, sym, subst, a
 use Rattle.std.specs.Prelude.{◌||◌, nat_eq}
 use Rattle.std.proofs.lemmas.Option.{slice_get_within}
 use Rattle.univ_graph.specs.declared.spread.Step.{Step}
-use Rattle.univ_graph.proofs.Places.{got, same_some}
-use Rattle.univ_graph.proofs.Sameness.{number_self}
+use Rattle.univ_parts.proofs.AtPlaces.{got, same_some}
+use Rattle.univ_parts.proofs.Sameness.{number_self}
 use Rattle.univ_graph.proofs.Spreading.{row_step, either_true, either_false, on_ok_map, closed_by_step, closed_by_none}
 use Rattle.univ_graph.proofs.board.Board.follow_row.Goals as goal
 use Rattle.univ_graph.proofs.board.Board.follow_row.Goals.{then-step, else-step, else-k-len-via-then-k-len+else-index-step, else-k-len-via-else-k-len}

@@ -1,6 +1,6 @@
 -- Each end that has no place is one more level, and one end is not counted twice.
 use Rattle.std.proofs.Common.{◌≡◌, ◌+◌, inl, inr, subst, ap, length, arith}
-use Rattle.univ_graph.specs.Places.{count_one}
+use Rattle.univ_parts.specs.Places.{count_one}
 use Rattle.univ_graph.proofs.LevelLists.{counted, IsPlaceIn}
 use Rattle.univ_graph.proofs.board.Board.levels_with.Goals as goal
 

@@ -1,10 +1,10 @@
 -- One more level with its number.
 use Rattle.std.proofs.Common.{◌≡◌, ◌∙◌, ◌<◌, ◌+◌, ◌++◌, ◌∷◌, [], suc, drop, sym, subst, ap, length, arith, rules}
 use Rattle.std.specs.Prelude.{slice_get, Some}
-use Rattle.univ_graph.specs.declared.numbers.LevelNumber.{LevelNumber}
-use Rattle.univ_graph.specs.Numbers.{numbering}
-use Rattle.univ_graph.specs.Places.{paired, rest}
-use Rattle.univ_graph.proofs.Places.{got}
+use Rattle.univ_parts.specs.declared.numbers.LevelNumber.{LevelNumber}
+use Rattle.univ_parts.specs.Numbers.{numbering}
+use Rattle.univ_parts.specs.Places.{paired, rest}
+use Rattle.univ_parts.proofs.AtPlaces.{got}
 use Rattle.univ_graph.proofs.LevelLists.{told_more}
 use Rattle.univ_graph.proofs.board.Board.numbering.Goals as goal
 

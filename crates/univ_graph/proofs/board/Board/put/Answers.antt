@@ -3,14 +3,15 @@ use Rattle.std.proofs.Common.{◌∙◌, ap}
 use Rattle.univ_graph.specs.declared.board.Row.{Row}
 use Rattle.univ_graph.specs.Boards.{tagged}
 use Rattle.univ_graph.proofs.Spreading.{on_ok_map}
-use Rattle.univ_graph.proofs.Soundness.{sound_put, tagged_more}
+use Rattle.univ_graph.proofs.Soundness.{sound_put, lists_put, tagged_more}
 use Rattle.univ_graph.proofs.board.Board.put.Goals as goal
 
 pub returns-clause-sound : goal.returns-clause-sound
 returns-clause-sound c =
     let row : Row = record { left = c.args.left; right = c.args.right; tagged = c.args.asked } in
-    sound_put c.append.result c.args.self.now c.append.new.self row c.requires.sound c.requires.met (c.requires.left, c.requires.right) c.append.ensures.names c.append.ensures.numbers c.append.ensures.room
-    c.append.ensures.rows c.append.ensures.same c.append.ensures.listed
+    let e = c.append.ensures in
+    sound_put c.append.result c.args.self.now c.append.new.self row c.requires.sound c.requires.met (c.requires.left, c.requires.right) e.names e.numbers e.bands e.rows e.same
+    (lists_put c.args.self.now c.append.new.self c.requires.sound e.room e.room_into e.listed e.listed_into)
 
 pub returns-clause-taken : goal.returns-clause-taken
 returns-clause-taken c =

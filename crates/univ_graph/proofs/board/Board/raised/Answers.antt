@@ -5,7 +5,7 @@ use Rattle.univ_graph.specs.declared.spread.Step.{Step}
 use Rattle.univ_graph.specs.Kept.{AreStepsAmong}
 use Rattle.univ_graph.specs.Boards.{at, all_raised, least_of, tagged, IsConflictWalk, AreInOrder}
 use Rattle.cic_names.specs.declared.level.Level.TheVariants as L
-use Rattle.univ_graph.proofs.Places.{at_read}
+use Rattle.univ_parts.proofs.AtPlaces.{at_read}
 use Rattle.univ_graph.proofs.Raising.{raised_good, above_set, all_raised_length, place_within}
 use Rattle.univ_graph.proofs.WalkingBack.{if_ok_map, steps_of_last}
 use Rattle.univ_graph.proofs.board.Board.raised.Goals as goal
@@ -20,8 +20,8 @@ returns-then-right-eq0-clause-conflict c =
 pub spread-requires-clause-above : goal.spread-requires-clause-above
 spread-requires-clause-above c = above_set c.args.self.now.names c.args.self.now.numbers.items c.args.right c.args.asked.now.constraint.right c.requires.sound.numbers c.requires.right c.if-right-eq0.false
 
-pub fit-requires : goal.fit-requires
-fit-requires c =
+pub close-requires : goal.close-requires
+close-requires c =
     let ns = c.args.self.now.numbers.items in
     let marks = c.in-Ok.spread.marks.items in
     let r : c.in-Ok-raise.numbers.items ≡ all_raised c.least_of-least.result ns marks =
@@ -31,8 +31,8 @@ fit-requires c =
     let f = c.requires.few in
     let n : length c.in-Ok-raise.numbers.items ≡ length ns = ap length r ∙ l in omega arith
 
-pub returns-in-Ok-fit-clause-raised : goal.returns-in-Ok-fit-clause-raised
-returns-in-Ok-fit-clause-raised c =
+pub returns-in-Ok-close-clause-raised : goal.returns-in-Ok-close-clause-raised
+returns-in-Ok-close-clause-raised c =
     let b = c.args.self.now in
     let ns = b.numbers.items in
     let marks = c.in-Ok.spread.marks.items in
@@ -46,6 +46,6 @@ returns-in-Ok-fit-clause-raised c =
     ∙ ap (λ z. all_raised z ns marks) least in
     let one = above_set b.names ns c.args.right c.args.asked.now.constraint.right c.requires.sound.numbers c.requires.right c.if-right-eq0.false in
     let none : (j : ℕ) (s : Step) → slice_get c.deref.result.now j ≡ Some s → s.place ≡ c.args.left → s.strict ≡ true → ⊥ = c.in_default-strict_step.ensures in
-    raised_good b c.args.left c.args.right strict marks steps c.in-Ok-fit.numbers.items c.requires.sound c.in-Ok.ensures
+    raised_good b c.args.left c.args.right strict marks steps c.in-Ok-close.numbers.items c.requires.sound c.in-Ok.ensures
     (λ j s is. none j s (ap (λ z. slice_get z j) c.deref.ensures.value ∙ is)) within one
-    (subst (λ z. AreInOrder z c.in-Ok-fit.numbers.items) r c.in-Ok-fit.ensures)
+    (subst (λ z. AreInOrder z c.in-Ok-close.numbers.items) (c.as_slice.ensures.value ∙ r) c.in-Ok-close.ensures.order)

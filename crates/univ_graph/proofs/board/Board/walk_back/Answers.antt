@@ -2,7 +2,7 @@
 use Rattle.std.proofs.Common.{◌≡◌, ◌∙◌, ◌<◌, ◌++◌, ◌∷◌, [], reverse, sym, subst, ap, length, rules, arith}
 use Rattle.std.proofs.lemmas.Option.{slice_get_within}
 use Rattle.univ_graph.specs.Boards.{IsConflictWalk, tagged}
-use Rattle.univ_graph.proofs.Places.{got}
+use Rattle.univ_parts.proofs.AtPlaces.{got}
 use Rattle.univ_graph.proofs.WalkingBack.{IsWayBack, back_start, back_step, step_back, back_whole}
 use Rattle.univ_graph.proofs.board.Board.walk_back.Goals as goal
 

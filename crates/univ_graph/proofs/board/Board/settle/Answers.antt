@@ -1,0 +1,21 @@
+-- The numbers do not meet the constraint still, where no gap was found.
+use Rattle.std.proofs.Common.{◌≡◌, ◌<◌, sym, subst, ℕ, List, length, arith}
+use Rattle.cic_rules.specs.Numbering.{MeetsAt}
+use Rattle.univ_graph.specs.Boards.{at}
+use Rattle.univ_parts.proofs.AtPlaces.{at_read}
+use Rattle.univ_graph.proofs.Raising.{place_within}
+use Rattle.univ_graph.proofs.board.Board.settle.Goals as goal
+
+pub settle_plainly-requires-clause-not_met : goal.settle_plainly-requires-clause-not_met
+settle_plainly-requires-clause-not_met c =
+    let b = c.args.self.now in
+    let ns = b.numbers.items in
+    let strict = c.args.asked.constraint.strict in
+    let e = c.requires.sound.numbers.lengths in
+    let left_in : c.args.left < length ns = let w = place_within b.names c.args.left c.args.asked.constraint.left c.requires.left in omega arith in
+    let right_in : c.args.right < length ns = let w = place_within b.names c.args.right c.args.asked.constraint.right c.requires.right in omega arith in
+    let left : c.index.result.now ≡ at ns c.args.left = at_read ns c.args.left c.index.result.now left_in c.index.ensures in
+    let right : c.index-2.result.now ≡ at ns c.args.right = at_read ns c.args.right c.index-2.result.now right_in c.index-2.ensures in
+    λ met.
+    let old : MeetsAt strict (at ns c.args.left) (at ns c.args.right) = subst (λ (z : List ℕ). MeetsAt strict (at z c.args.left) (at z c.args.right)) c.renumbering.ensures.numbers met in
+    let never = c.if-meets_at.ensures.1 (subst (λ x. MeetsAt strict x c.index-2.result.now) (sym left) (subst (λ y. MeetsAt strict (at ns c.args.left) y) (sym right) old)) in absurd (cc)

@@ -1,0 +1,105 @@
+-- The test that a table of level names makes decides whether two are equal, and what such a table finds stays
+-- found when a new name is put in. A graph finds the places of its levels by that table.
+use Rattle.std.proofs.Common.{◌≡◌, ◌∙◌, ◌⊎◌, inl, inr, ℕ, zero, suc, List, [], ◌∷◌, ◌++◌, length, take, Bool, true, false, ◌&&◌, nat_eq, refl, ap, sym, subst, if◌then◌else◌}
+use Rattle.std.specs.Prelude.{Option, Some, slice_get}
+use Rattle.std.specs.Cmp.Lexicographic.{pointwise, bytes_decides}
+use Rattle.std.specs.Cmp.{first_so, second_so}
+use Rattle.cic_names.specs.declared.level.Part.{Part}
+use Rattle.cic_names.specs.declared.level.Part.TheVariants.{Declared, Visible, Proof}
+use Rattle.cic_names.specs.declared.level.LevelName.{LevelName}
+use Rattle.cic_names.specs.contracts.level.LevelNamePartialEq.TheImpl as derived
+use Rattle.cic_names.specs.contracts.level.PartPartialEq.TheImpl as derived_part
+use Rattle.univ_parts.specs.Places.{IsAbsent}
+use Rattle.univ_parts.proofs.Sameness.{number_same, number_self, and_true, name_parts}
+
+abbrev pub name_eq : LevelName → LevelName → Bool
+name_eq = (derived.eq-value).it
+
+abbrev part_eq : Part → Part → Bool
+part_eq = (derived_part.eq-value).it
+
+part_decides : (a b : Part) → part_eq a b ≡ true → a ≡ b
+part_decides Declared Declared h = refl
+part_decides Visible Visible h = refl
+part_decides Proof Proof h = refl
+part_decides Declared Visible h = absurd (cc)
+part_decides Declared Proof h = absurd (cc)
+part_decides Visible Declared h = absurd (cc)
+part_decides Visible Proof h = absurd (cc)
+part_decides Proof Declared h = absurd (cc)
+part_decides Proof Visible h = absurd (cc)
+
+part_itself : (a : Part) → part_eq a a ≡ true
+part_itself Declared = refl
+part_itself Visible = refl
+part_itself Proof = refl
+
+name_form : (a b : LevelName) → name_eq a b ≡ (pointwise nat_eq a.lib b.lib && (pointwise nat_eq a.owner b.owner && (part_eq a.part b.part && nat_eq a.number b.number)))
+name_form a b = refl
+
+pub name_decides : (a b : LevelName) → name_eq a b ≡ true → a ≡ b
+name_decides a b h =
+    let f = sym (name_form a b) ∙ h in
+    let p = second_so (pointwise nat_eq a.lib b.lib) (pointwise nat_eq a.owner b.owner && (part_eq a.part b.part && nat_eq a.number b.number)) f in
+    let q = second_so (pointwise nat_eq a.owner b.owner) (part_eq a.part b.part && nat_eq a.number b.number) p in
+    name_parts a b
+    ((bytes_decides a.lib b.lib).0 (first_so (pointwise nat_eq a.lib b.lib) (pointwise nat_eq a.owner b.owner && (part_eq a.part b.part && nat_eq a.number b.number)) f))
+    ((bytes_decides a.owner b.owner).0 (first_so (pointwise nat_eq a.owner b.owner) (part_eq a.part b.part && nat_eq a.number b.number) p))
+    (part_decides a.part b.part (first_so (part_eq a.part b.part) (nat_eq a.number b.number) q))
+    (number_same a.number b.number (second_so (part_eq a.part b.part) (nat_eq a.number b.number) q))
+
+pub name_itself : (a : LevelName) → name_eq a a ≡ true
+name_itself a =
+    and_true (pointwise nat_eq a.lib a.lib) (pointwise nat_eq a.owner a.owner && (part_eq a.part a.part && nat_eq a.number a.number)) ((bytes_decides a.lib a.lib).1 refl)
+    (and_true (pointwise nat_eq a.owner a.owner) (part_eq a.part a.part && nat_eq a.number a.number) ((bytes_decides a.owner a.owner).1 refl)
+    (and_true (part_eq a.part a.part) (nat_eq a.number a.number) (part_itself a.part) (number_self a.number)))
+
+-- An element of a list with one more is one of the list, or the new one.
+pub get_more : {X : Type 0} (xs : List X) (x y : X) (p : ℕ) → slice_get (xs ++ x ∷ []) p ≡ Some y → (slice_get xs p ≡ Some y) ⊎ ((p ≡ length xs) × (x ≡ y))
+get_more [] x y zero h = inr (refl, (cc))
+get_more [] x y (suc p) h = absurd (cc)
+get_more (z ∷ xs) x y zero h = inl h
+get_more (z ∷ xs) x y (suc p) h = elim (get_more xs x y p h) [
+  | inl a ↦ inl a
+  | inr b ↦ inr (ap suc b.0, b.1)
+]
+
+true_or : (b : Bool) → (b ≡ true) ⊎ (b ≡ false)
+true_or true = inl refl
+true_or false = inr refl
+
+-- What the table says of the old names, once it has been told the place of a new one.
+pub placed_old : (names : List LevelName) (key l : LevelName) (p place : ℕ) (old new : Option ℕ) →
+    IsAbsent key names → slice_get names p ≡ Some l → old ≡ Some p → new ≡ (if name_eq key l then Some place else old) → new ≡ Some p
+placed_old names key l p place old new fresh is before after = elim (true_or (name_eq key l)) [
+  | inl t ↦ absurd (fresh p (is ∙ ap Some (sym (name_decides key l t))))
+  | inr f ↦ after ∙ rw f before
+]
+
+pub placed_new : (names : List LevelName) (key l : LevelName) (p : ℕ) (old new : Option ℕ) →
+    IsAbsent key names → (slice_get names p ≡ Some l → old ≡ Some p) → new ≡ (if name_eq key l then Some (length names) else old) →
+    slice_get (names ++ key ∷ []) p ≡ Some l → new ≡ Some p
+placed_new names key l p old new fresh before after is = elim (get_more names key l p is) [
+  | inl a ↦ placed_old names key l p (length names) old new fresh a (before a) after
+  | inr b ↦
+      let same : name_eq key l ≡ true = subst (λ (x : LevelName). name_eq key x ≡ true) b.1 (name_itself key) in
+      after ∙ rw same (ap Some (sym b.0))
+]
+
+-- What the table says of the first names.
+pub get_first : {X : Type 0} (xs : List X) (n p : ℕ) (x : X) → slice_get (take n xs) p ≡ Some x → slice_get xs p ≡ Some x
+get_first [] zero p x h = h
+get_first [] (suc n) p x h = h
+get_first (y ∷ xs) zero p x h = absurd (cc)
+get_first (y ∷ xs) (suc n) zero x h = h
+get_first (y ∷ xs) (suc n) (suc p) x h = get_first xs n p x h
+
+pub placed_pushed : (b : Bool) (names items : List LevelName) (key own l : LevelName) (p : ℕ) (old new : Option ℕ) →
+    IsAbsent key names → own ≡ key → items ≡ (if b then names ++ own ∷ [] else names) → (slice_get names p ≡ Some l → old ≡ Some p) →
+    new ≡ (if name_eq key l then Some (length names) else old) → slice_get items p ≡ Some l → new ≡ Some p
+placed_pushed true names items key own l p old new fresh same are before after is =
+    let e : items ≡ names ++ key ∷ [] = are ∙ ap (λ (x : LevelName). names ++ x ∷ []) same in
+    placed_new names key l p old new fresh before after (sym (ap (λ (xs : List LevelName). slice_get xs p) e) ∙ is)
+placed_pushed false names items key own l p old new fresh same are before after is =
+    let q : slice_get names p ≡ Some l = sym (ap (λ (xs : List LevelName). slice_get xs p) are) ∙ is in
+    placed_old names key l p (length names) old new fresh q (before q) after

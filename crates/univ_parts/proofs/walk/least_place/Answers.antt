@@ -1,0 +1,30 @@
+-- The step at hand is the new place, or it is not below the old one.
+use Rattle.std.proofs.Common.{◌<◌, ◌+◌, length, get_or, subst, sym, ℕ, take}
+use Rattle.cic_rules.specs.Numbering.{NoneBelow}
+use Rattle.univ_parts.specs.declared.cycle.Tagged.{Tagged}
+use Rattle.univ_parts.specs.Numbers.{constraints}
+use Rattle.univ_parts.proofs.WalkLaws.{least_new, least_old, least_all, get_any}
+use Rattle.univ_parts.proofs.walk.least_place.Goals as goal
+use Rattle.univ_parts.proofs.walk.least_place.Goals.{then-is_below, else-is_below}
+
+pub loop-i-preserved : goal.loop-i-preserved
+loop-i-preserved c =
+    let xs = c.args.steps.now in
+    let P = λ (p : ℕ). (p < length xs) × ((t : Tagged) → NoneBelow (get_or xs p t).constraint.left (constraints (take (c.loop-i.i + 1) xs))) in
+    let y = get_or xs c.loop-i.place c.index-steps-place.result in
+    let at = get_any xs c.loop-i.place c.index-steps-place.result y c.loop-i.invariant.0 in
+    elim c.if-is_below.branch [
+      | then-is_below w ↦ subst P (sym w.place-is) (
+        c.loop-i-test.true,
+        least_new xs c.loop-i.i c.loop-i.place c.index-steps-i.result y c.loop-i-test.true c.index-steps-i.is
+            c.loop-i.invariant.0 at (c.is_below.ensures.0 w.if-is_below.true) c.loop-i.invariant.1,
+      )
+      | else-is_below w ↦ subst P (sym w.place-is) (
+        c.loop-i.invariant.0,
+        least_old xs c.loop-i.i c.loop-i.place c.index-steps-i.result y c.loop-i-test.true c.index-steps-i.is
+            c.loop-i.invariant.0 at (λ b. let t = c.is_below.ensures.1 b in let f = w.if-is_below.false in (cc)) c.loop-i.invariant.1,
+      )
+    ]
+
+pub returns-clause-least : goal.returns-clause-least
+returns-clause-least c t = least_all _ c.args.steps.now c.loop-i.i c.loop-i-test.false (c.loop-i.invariant.1 t)
