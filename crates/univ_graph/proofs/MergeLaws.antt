@@ -1,7 +1,7 @@
 -- Levels that become equal: one number of a gap for what leads back to the left end of a constraint within what is reached from its
 -- right end, and numbers behind it for the others that are reached; or the number of the left end for all that is reached. The new
 -- numbers meet all constraints. The functions that find such places and write such numbers rest on this.
-use Rattle.std.proofs.Common.{◌≡◌, ◌∙◌, ◌⊎◌, inl, inr, ◌<◌, ◌≤◌, ◌+◌, ◌*◌, ℕ, suc, List, [], ◌++◌, length, Bool, true, false, refl, ap, sym, subst, arith}
+use Rattle.std.proofs.Common.{◌≡◌, ◌∙◌, ◌⊎◌, inl, inr, ◌<◌, ◌≤◌, ◌+◌, ℕ, suc, List, [], ◌++◌, length, Bool, true, false, refl, ap, sym, subst, arith}
 use Rattle.std.specs.Prelude.{Option, Some, None, slice_get, Contains, Result, Ok, Err, IfOk, IfSome}
 use Rattle.std.proofs.lemmas.Option.{slice_get_within}
 use Rattle.cic_rules.specs.Numbering.{MeetsAt}
@@ -13,7 +13,7 @@ use Rattle.univ_graph.specs.declared.search.Found.{Found}
 use Rattle.univ_graph.specs.declared.search.Found.TheVariants.{Gathered}
 use Rattle.univ_graph.specs.declared.merge.Merge.{Merge}
 use Rattle.univ_parts.specs.Places.{IsFront}
-use Rattle.univ_parts.specs.Bands.{AreBands, AreMovedInto, IsCovered, IsGap, band_width}
+use Rattle.univ_parts.specs.Bands.{AreBands, AreMovedInto, IsCovered, IsGap}
 use Rattle.univ_graph.specs.Boards.{at, number_bound, AreNumbers, AreRaised, IsSound, IsMet}
 use Rattle.univ_graph.specs.Moves.{AreRanked, AreWritten, IsClosed, IsFoundFrom}
 use Rattle.univ_graph.specs.Merges.{AreMerged, AreOthers, FitsMerge, IsLift, IsMerge, IsMergedAlong, IsMerging, IsMerged, LeadsBehind, Merges}
@@ -22,7 +22,7 @@ use Rattle.univ_parts.proofs.RankLaws.{compare_or, less_or_at}
 use Rattle.univ_graph.proofs.Shifting.{Side, side, contains_or, index_of, has_index, meets_across, meets_in_order, meets_same, written_in, written_order}
 use Rattle.univ_parts.proofs.PlaceSets.{place_in}
 use Rattle.univ_graph.proofs.SearchLaws.{front_length, front_get, get_front, contains_front}
-use Rattle.univ_graph.proofs.PlanLaws.{nothing_has, above_between, free_within, gap_bounded}
+use Rattle.univ_graph.proofs.PlanLaws.{nothing_has, above_between, gap_bounded, gap_part}
 
 -- ---- two numbers of a constraint
 
@@ -323,22 +323,11 @@ merge_of b left right gap m reached merged sound g closed is has_left has_right 
 pub merges_of : (b : Board) (left right : ℕ) (gap : Gap) (m : Merge) (reached merged : List ℕ) → IsSound b → IsGap b.bands.bands.items gap → IsClosed b true gap.high [] reached →
     IsMerged b reached merged → Contains merged left → Contains merged right → FitsMerge b.numbers.items gap reached merged m → Merges b left right m
 merges_of b left right gap m reached merged sound g closed is has_left has_right fits =
-    let positive = g.positive in
     let low = fits.low in
     let high = fits.high in
     let room = fits.room in
-    let g_low = g.low in
-    let g_high = g.high in
-    let band = fits.band in
     record {
-      gap = record {
-        within = subst (λ z. z < length b.bands.bands.items) (sym band) g.within;
-        positive = omega arith;
-        order = omega arith;
-        low = subst (λ z. z * band_width ≤ m.gap.low) (sym band) (omega arith);
-        high = subst (λ z. m.gap.high ≤ z * band_width + band_width) (sym band) (omega arith);
-        free = λ numbers bands. free_within numbers gap.low gap.high m.gap.low m.gap.high (omega arith) high (g.free numbers bands);
-      };
+      gap = gap_part b.bands.bands.items gap m.gap g fits.band (omega arith) (omega arith) high;
       merge = (
         reached,
         subst (λ z. IsMerge b left right m.gap.low m.gap.high reached z m.others) (sym fits.merged_is)

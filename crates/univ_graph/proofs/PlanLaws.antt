@@ -3,6 +3,7 @@
 use Rattle.std.proofs.Common.{◌≡◌, inl, inr, ◌<◌, ◌≤◌, ◌+◌, ◌*◌, ℕ, zero, List, [], ◌∷◌, length, Bool, true, false, refl, sym, subst, arith}
 use Rattle.std.specs.Prelude.{Contains}
 use Rattle.univ_graph.specs.declared.board.Board.{Board}
+use Rattle.univ_parts.specs.declared.bands.Band.{Band}
 use Rattle.univ_parts.specs.declared.bands.Gap.{Gap}
 use Rattle.univ_graph.specs.declared.plan.Shift.{Shift}
 use Rattle.univ_parts.specs.Bands.{IsFree, IsGap, band_width}
@@ -84,6 +85,21 @@ above_between b low high bound barred up from to free closed = record {
 pub free_within : (numbers : List ℕ) (low high from to : ℕ) → low ≤ from → to ≤ high → IsFree numbers low high → IsFree numbers from to
 free_within numbers low high from to a c free p = elim (free p) [ inl less ↦ inl (omega arith) | inr more ↦ inr (omega arith) ]
 
+-- A part of a gap is one.
+pub gap_part : (bands : List Band) (gap part : Gap) → IsGap bands gap → part.band ≡ gap.band → gap.low ≤ part.low → part.low ≤ part.high → part.high ≤ gap.high → IsGap bands part
+gap_part bands gap part g band low order high =
+    let positive = g.positive in
+    let g_low = g.low in
+    let g_high = g.high in
+    record {
+      within = subst (λ z. z < length bands) (sym band) g.within;
+      positive = omega arith;
+      order = order;
+      low = subst (λ z. z * band_width ≤ part.low) (sym band) (omega arith);
+      high = subst (λ z. part.high ≤ z * band_width + band_width) (sym band) (omega arith);
+      free = λ numbers bands_are. free_within numbers gap.low gap.high part.low part.high low high (g.free numbers bands_are);
+    }
+
 pub gap_bounded : (b : Board) (g : Gap) → IsSound b → IsGap b.bands.bands.items g → g.high ≤ number_bound
 gap_bounded b g sound gap =
     let few = sound.bands.few in
@@ -120,23 +136,12 @@ pub moves_of : (b : Board) (left right : ℕ) (gap : Gap) (s : Shift) (barred do
 moves_of b left right gap s barred down up sound g leads bars reached fits =
     let ns = b.numbers.items in
     let shift = shift_of b left right gap s barred down up sound g leads bars reached fits in
-    let positive = g.positive in
     let low = fits.low in
     let high = fits.high in
     let down_room = fits.down_room in
     let up_room = fits.up_room in
-    let g_low = g.low in
-    let g_high = g.high in
-    let band = fits.band in
     record {
-      gap = record {
-        within = subst (λ z. z < length b.bands.bands.items) (sym band) g.within;
-        positive = omega arith;
-        order = omega arith;
-        low = subst (λ z. z * band_width ≤ s.gap.low) (sym band) (omega arith);
-        high = subst (λ z. s.gap.high ≤ z * band_width + band_width) (sym band) (omega arith);
-        free = λ numbers bands. free_within numbers gap.low gap.high s.gap.low s.gap.high low high (g.free numbers bands);
-      };
+      gap = gap_part b.bands.bands.items gap s.gap g fits.band low (omega arith) high;
       shift = (
         barred,
         subst (λ d. IsShift b left right s.gap.low s.middle s.gap.high barred d s.up) (sym fits.down_is)

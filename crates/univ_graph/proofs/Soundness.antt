@@ -182,3 +182,30 @@ sound_put (Err e) b c row h met tied names numbers bands more same lists =
 -- The same board with bands that its numbers are in too.
 pub sound_bands : (b c : Board) → IsSound b → AreParts c b.names b.numbers.items b.rows.items → AreBands c.bands.bands.items b.numbers.items → AreLists c (length b.numbers.items) b.rows.items → IsSound c
 sound_bands b c h parts bands lists = sound_of c b.names b.numbers.items b.rows.items parts h.numbers bands lists h.tied h.met
+
+-- A board whose lists have one more row behind them than these, and the numbers and bands of another.
+pub sound_taken_with : (b c d : Board) (row : Row) (v : List ℕ) → IsSound b → AreRaised b row.left row.right row.tagged.constraint.strict v → IsTied b.names row →
+    c.rows.items ≡ b.rows.items ++ row ∷ [] → AreLists c (length b.numbers.items) c.rows.items → AreParts d b.names v c.rows.items → d.out ≡ c.out → d.into ≡ c.into → AreBands d.bands.bands.items v →
+    IsSound d
+sound_taken_with b c d row v h raised tied rows lists parts out into bands =
+    sound_taken b d row v h raised tied (record { names_are = parts.names_are; numbers_are = parts.numbers_are; rows_are = parts.rows_are ∙ rows }) bands
+    (record {
+      roomy = subst (λ z. length b.numbers.items ≤ length z.lists.items) (sym out) lists.roomy;
+      roomy_into = subst (λ z. length b.numbers.items ≤ length z.lists.items) (sym into) lists.roomy_into;
+      listed = subst (λ z. AreListed true z.lists.items (b.rows.items ++ row ∷ [])) (sym out) (subst (λ z. AreListed true c.out.lists.items z) rows lists.listed);
+      listed_into = subst (λ z. AreListed false z.lists.items (b.rows.items ++ row ∷ [])) (sym into) (subst (λ z. AreListed false c.into.lists.items z) rows lists.listed_into);
+    })
+
+-- The same board, where there was no memory for one more row.
+pub sound_not_taken : (b c : Board) → IsSound b → AreParts c b.names b.numbers.items b.rows.items → c.bands.bands.items ≡ b.bands.bands.items → AreLists c (length b.numbers.items) c.rows.items → IsSound c
+sound_not_taken b c h parts bands lists = sound_same b c h parts bands (subst (λ z. AreLists c (length b.numbers.items) z) parts.rows_are lists)
+
+-- A place of a level is within the numbers, and within the lists.
+pub level_within : (b : Board) (p : ℕ) (l : Level) → IsSound b → level_at b.names p ≡ Some l → p < length b.numbers.items
+level_within b p l h is = let w = place_within b.names p l is in let e = h.numbers.lengths in omega arith
+
+pub level_listed : (b : Board) (p : ℕ) (l : Level) → IsSound b → level_at b.names p ≡ Some l → (p < length b.out.lists.items) × (p < length b.into.lists.items)
+level_listed b p l h is =
+    let w = level_within b p l h is in
+    let r = h.roomy in
+    let s = h.roomy_into in (omega arith, omega arith)

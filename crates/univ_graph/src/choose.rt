@@ -15,13 +15,13 @@ pub const FEW: usize = 32;
 /// As many as there are.
 pub const ALL: usize = usize::MAX;
 
-/// About the square root, by its number of bits.
+/// About the square root, and no less than 32.
 fn about_root(n: usize) -> usize
-    ensures { 1 ≤ result }
+    ensures { 32 ≤ result }
 {
     match n {
-        0..=0xff => 16,
-        0x100..=0xfff => 64,
+        0..=0x3ff => 32,
+        0x400..=0xfff => 64,
         0x1000..=0xffff => 256,
         _ => 1024,
     }

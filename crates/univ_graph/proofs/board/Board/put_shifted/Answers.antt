@@ -4,25 +4,20 @@ use Rattle.univ_graph.specs.declared.board.Row.{Row}
 use Rattle.univ_graph.specs.Boards.{tagged}
 use Rattle.univ_parts.specs.Bands.{AreBands}
 use Rattle.univ_graph.specs.Moves.{AreWritten}
-use Rattle.univ_graph.proofs.Raising.{place_within}
-use Rattle.univ_graph.proofs.Soundness.{AreLists, sound_taken, sound_same, lists_put, tagged_more}
+use Rattle.univ_graph.proofs.Soundness.{level_listed, sound_taken_with, sound_not_taken, lists_put, tagged_more}
 use Rattle.univ_graph.proofs.MovingLaws.{down_within, up_within, moved_raises, moved_into}
 use Rattle.univ_graph.proofs.board.Board.put_shifted.Goals as goal
 
 pub append-requires-clause-left : goal.append-requires-clause-left
-append-requires-clause-left c =
-    let h = c.requires.sound in
-    let w = place_within c.args.self.now.names c.args.left c.args.asked.constraint.left c.requires.left in
-    let e = h.numbers.lengths in let r = h.roomy in omega arith
+append-requires-clause-left c = (level_listed c.args.self.now c.args.left c.args.asked.constraint.left c.requires.sound c.requires.left).0
 
 pub returns-in_err-append-clause-sound : goal.returns-in_err-append-clause-sound
 returns-in_err-append-clause-sound c =
     let b = c.args.self.now in
     let new = c.append.new.self in
     let e = c.append.ensures in
-    let rows : new.rows.items ≡ b.rows.items = c.in_err-append.ensures.same in
-    sound_same b new c.requires.sound (record { names_are = e.names; numbers_are = e.numbers; rows_are = rows }) e.bands
-    (subst (λ z. AreLists new (length b.numbers.items) z) rows (lists_put b new c.requires.sound e.room e.room_into e.listed e.listed_into))
+    sound_not_taken b new c.requires.sound (record { names_are = e.names; numbers_are = e.numbers; rows_are = c.in_err-append.ensures.same }) e.bands
+    (lists_put b new c.requires.sound e.room e.room_into e.listed e.listed_into)
 
 pub write-requires-clause-within : goal.write-requires-clause-within
 write-requires-clause-within c = λ p has.
@@ -49,10 +44,8 @@ returns-clause-sound c =
     let second : AreWritten mid after s.up s.up_ranks.items s.middle = subst (λ z. AreWritten mid after s.up z s.middle) c.deref-2.ensures.value c.write-2.ensures in
     let raised = moved_raises b c.args.left c.args.right c.args.asked.constraint.strict s mid after c.requires.sound c.requires.moves first second in
     let bands = c.cover.ensures b.numbers.items after (subst (λ z. AreBands z b.numbers.items) (sym e.bands) c.requires.sound.bands) (moved_into b c.args.left c.args.right s mid after c.requires.moves first second) in
-    let lists : AreLists c.append.new.self (length b.numbers.items) (b.rows.items ++ row ∷ []) =
-    subst (λ z. AreLists c.append.new.self (length b.numbers.items) z) rows (lists_put b c.append.new.self c.requires.sound e.room e.room_into e.listed e.listed_into) in
-    sound_taken b _ row after c.requires.sound raised (c.requires.left, c.requires.right) (record { names_are = e.names; numbers_are = refl; rows_are = rows }) bands
-    (record { roomy = lists.roomy; roomy_into = lists.roomy_into; listed = lists.listed; listed_into = lists.listed_into })
+    sound_taken_with b c.append.new.self _ row after c.requires.sound raised (c.requires.left, c.requires.right) rows (lists_put b c.append.new.self c.requires.sound e.room e.room_into e.listed e.listed_into)
+    (record { names_are = e.names; numbers_are = refl; rows_are = refl }) refl refl bands
 
 pub returns-clause-taken : goal.returns-clause-taken
 returns-clause-taken c =

@@ -1,9 +1,9 @@
 -- The numbers do not meet the constraint still, where no gap was found.
-use Rattle.std.proofs.Common.{◌≡◌, ◌<◌, sym, subst, ℕ, List, length, arith}
+use Rattle.std.proofs.Common.{◌≡◌, sym, subst, ℕ, List}
 use Rattle.cic_rules.specs.Numbering.{MeetsAt}
 use Rattle.univ_graph.specs.Boards.{at}
 use Rattle.univ_parts.proofs.AtPlaces.{at_read}
-use Rattle.univ_graph.proofs.Raising.{place_within}
+use Rattle.univ_graph.proofs.Soundness.{level_within}
 use Rattle.univ_graph.proofs.board.Board.settle.Goals as goal
 
 pub settle_plainly-requires-clause-not_met : goal.settle_plainly-requires-clause-not_met
@@ -11,9 +11,8 @@ settle_plainly-requires-clause-not_met c =
     let b = c.args.self.now in
     let ns = b.numbers.items in
     let strict = c.args.asked.constraint.strict in
-    let e = c.requires.sound.numbers.lengths in
-    let left_in : c.args.left < length ns = let w = place_within b.names c.args.left c.args.asked.constraint.left c.requires.left in omega arith in
-    let right_in : c.args.right < length ns = let w = place_within b.names c.args.right c.args.asked.constraint.right c.requires.right in omega arith in
+    let left_in = level_within b c.args.left c.args.asked.constraint.left c.requires.sound c.requires.left in
+    let right_in = level_within b c.args.right c.args.asked.constraint.right c.requires.sound c.requires.right in
     let left : c.index.result.now ≡ at ns c.args.left = at_read ns c.args.left c.index.result.now left_in c.index.ensures in
     let right : c.index-2.result.now ≡ at ns c.args.right = at_read ns c.args.right c.index-2.result.now right_in c.index-2.ensures in
     λ met.
