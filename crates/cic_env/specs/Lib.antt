@@ -1,4 +1,3 @@
 pub mod Declarations
 pub mod Places
 pub mod Environments
-pub mod Verdicts

@@ -1,7 +1,7 @@
 -- Where an environment has the declaration of an id.
 use Rattle.std.specs.Prelude.{ℕ, ◌+◌, Bool, true, false, List, [], ◌∷◌, Option, Some, None}
 use Rattle.cic_names.specs.declared.name.GlobalId.{GlobalId}
-use Rattle.cic_rules.specs.Sameness.{same_id}
+use Rattle.cic_names.specs.Sameness.{same_id}
 use Rattle.cic_env.specs.declared.declaration.Decl.{Decl}
 use Rattle.cic_env.specs.Declarations.{decl_id}
 

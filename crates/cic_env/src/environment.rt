@@ -37,7 +37,7 @@ impl Env {
     ghost use Rattle.std.specs.Option.{option_map};
     ghost use Rattle.cic_rules.specs.Environment.{meaning, environment_ids};
     ghost use Rattle.cic_env.specs.Declarations.{item};
-    ghost use Rattle.cic_env.specs.Environments.{items, entry_meaning, IsHandedBack, OnlyDuplicate};
+    ghost use Rattle.cic_env.specs.Environments.{items, item_of, entry_item, entry_meaning, IsHandedBack, OnlyDuplicate};
 
     /// No declarations.
     pub fn new(alloc: Global) -> Env
@@ -63,9 +63,10 @@ impl Env {
         self.decls.as_slice()
     }
 
-    /// What an id stands for, if it is declared.
+    /// What an id stands for, if it is declared, with the item that declares it.
     pub fn get(&self, id: &GlobalId) -> Option<Entry<'_>>
-        ensures { option_map entry_meaning result ≡ meaning (items self.now) id.now }
+        ensures whose { option_map entry_item result ≡ item_of (items self.now) id.now }
+        ensures means { option_map entry_meaning result ≡ meaning (items self.now) id.now }
     {
         match self.places.get(id) {
             Some(place) => Some(Entry::Decl(&self.decls[*place])),

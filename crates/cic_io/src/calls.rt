@@ -1,6 +1,6 @@
 ghost use Rattle.std.specs.Prelude.{◌≡◌, ◌++◌, ◌∷◌, [], IsTrue, ◌↔◌, Contains, OnOk, OnErr};
 
-use cic_names::NoMemory;
+use memory::NoMemory;
 use std::alloc::Global;
 use std::marker::Model;
 
@@ -33,7 +33,8 @@ impl Calls {
         ensures added { OnOk result (self.new ≡ self.old ++ number ∷ []) }
         ensures same { OnErr result (self.new ≡ self.old) }
     {
-        self.numbers.push(number).map_err(|_| NoMemory)
+        self.numbers.push(number)?;
+        Ok(())
     }
 
     /// Whether the call of that number is among them.

@@ -2,6 +2,7 @@ ghost use Rattle.std.specs.Prelude.{◌≡◌, ◌↔◌, IfOk, OnOk, IsErrOf};
 ghost use Rattle.std.specs.Option.{SomeIff, option_copied};
 ghost use Rattle.cic_io.specs.FileName.{IsFileName};
 
+use memory::OutOfMemory;
 use std::alloc::Global;
 use std::marker::Model;
 use thiserror::Error;
@@ -15,6 +16,16 @@ pub enum FileNameFault {
     /// There was no memory for the name.
     #[error("out of memory")]
     NoMemory,
+}
+
+impl<E: OutOfMemory> From<E> for FileNameFault {
+    ghost use Rattle.cic_io.specs.declared.file_name.FileNameFault.TheVariants.{NoMemory};
+
+    ghost from_gives = { λ _ fault. fault ≡ NoMemory };
+
+    fn from(_fault: E) -> FileNameFault {
+        FileNameFault::NoMemory
+    }
 }
 
 /// The name of a file in a folder: a text of 1 to 300 bytes without a slash and without a zero byte that is
@@ -43,10 +54,9 @@ impl FileName {
         ensures bad { IsErrOf result FileNameFault.BadName ↔ (¬ IsFileName bytes.now) }
     {
         let text = file_name_text(bytes).ok_or(FileNameFault::BadName)?;
-        match String::from_str(alloc, text) {
-            Ok(text) => Ok(FileName { text }),
-            Err(_) => Err(FileNameFault::NoMemory),
-        }
+        Ok(FileName {
+            text: String::from_str(alloc, text)?,
+        })
     }
 
     /// The name as text.

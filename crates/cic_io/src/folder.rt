@@ -1,3 +1,4 @@
+use memory::OutOfMemory;
 use thiserror::Error;
 
 /// Why a call of a folder gave no answer.
@@ -9,6 +10,17 @@ pub enum FolderFault {
     /// There was no memory for the call.
     #[error("out of memory")]
     NoMemory,
+}
+
+impl<E: OutOfMemory> From<E> for FolderFault {
+    ghost use Rattle.std.specs.Prelude.{◌≡◌};
+    ghost use Rattle.cic_io.specs.declared.folder.FolderFault.TheVariants.{NoMemory};
+
+    ghost from_gives = { λ _ fault. fault ≡ NoMemory };
+
+    fn from(_fault: E) -> FolderFault {
+        FolderFault::NoMemory
+    }
 }
 
 /// A folder of files, each known by its name.

@@ -17,13 +17,13 @@ mod sink;
 mod whole;
 
 pub use calls::Calls;
-pub use cic_names::NoMemory;
 pub use file_name::{FileName, FileNameFault};
 pub use folder::{Folder, FolderFault};
 pub use host_folder::HostFolder;
 pub use host_sink::HostSink;
 pub use mem_folder::MemFolder;
 pub use mem_sink::MemSink;
+pub use memory::NoMemory;
 pub use named_files::NamedFiles;
 pub use sink::{Sink, SinkFault};
 pub use whole::read_whole;

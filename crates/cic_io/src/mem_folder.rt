@@ -6,7 +6,7 @@ use crate::calls::Calls;
 use crate::counting::count_taken;
 use crate::folder::{Folder, FolderFault};
 use crate::named_files::NamedFiles;
-use cic_names::NoMemory;
+use memory::NoMemory;
 use std::alloc::Global;
 
 /// A folder in memory, which tells its files and fails at the calls that it is told.

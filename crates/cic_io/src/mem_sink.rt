@@ -2,7 +2,7 @@ use crate::call_count::CallCount;
 use crate::calls::Calls;
 use crate::counting::count_fault;
 use crate::sink::{Sink, SinkFault};
-use cic_names::NoMemory;
+use memory::NoMemory;
 use std::alloc::Global;
 
 /// A sink in memory, which tells what was sent and fails at the calls that it is told, counted from 1.

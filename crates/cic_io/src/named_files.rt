@@ -3,7 +3,7 @@ ghost use Rattle.std.specs.Option.{option_copied};
 ghost use Rattle.cic_io.specs.Files.{file_at};
 
 use crate::file_name::FileName;
-use cic_names::NoMemory;
+use memory::NoMemory;
 use std::alloc::Global;
 use std::marker::Model;
 
@@ -44,9 +44,8 @@ impl NamedFiles {
         ensures added { OnOk result (self.new ≡ self.old ++ record { name = name; bytes = bytes.items } ∷ []) }
         ensures same { OnErr result (self.new ≡ self.old) }
     {
-        self.files
-            .push(NamedFile { name, bytes })
-            .map_err(|_| NoMemory)
+        self.files.push(NamedFile { name, bytes })?;
+        Ok(())
     }
 
     /// The bytes of the file of that name, if there is one.

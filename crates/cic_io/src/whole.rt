@@ -22,10 +22,7 @@ pub fn read_whole<F: Folder>(
     ensures files { F.files folder.new ≡ F.files folder.old }
     ensures taken { IfOk result (λ bytes. Takes (F.taken folder.old) (F.taken folder.new) (length bytes.items)) }
 {
-    let mut bytes = match vec![in alloc; 0u8; count] {
-        Ok(bytes) => bytes,
-        Err(_) => return Err(FolderFault::NoMemory),
-    };
+    let mut bytes = vec![in alloc; 0u8; count]?;
     let read = fill(folder, name, bytes.as_mut_slice())?;
     bytes.truncate(read);
     Ok(bytes)

@@ -1,14 +1,14 @@
 -- Byte strings that are compared before what follows them.
-use Rattle.std.proofs.Common.{◌≡◌, ℕ, ◌<◌, List, [], ◌∷◌, ◌++◌, length, refl, sym, ap, ◌∙◌, append_assoc}
+use Rattle.std.proofs.Common.{◌≡◌, ℕ, ◌<◌, List, [], ◌∷◌, ◌++◌, length, refl, sym, ap, ◌∙◌, append_assoc, arith}
 use Rattle.std.proofs.lemmas.Cmp.{ranked}
-use Rattle.std.specs.Int.{to_be_bytes, w32}
 use Rattle.std.specs.Ordering.{nat_cmp, ordering_then, MatchOrdering}
 use Rattle.std.specs.declared.cmp.Ordering.{Ordering}
 use Rattle.std.specs.declared.cmp.Ordering.TheVariants.{Less, Equal, Greater}
-use Rattle.cic_names.specs.Orders.{byte_order, name_bytes, part_byte, number_bytes, level_bytes}
+use Rattle.cic_names.specs.Orders.{byte_order, name_bytes, part_byte, digits, number_bytes, owner_bytes, named_bytes, level_bytes}
 use Rattle.cic_names.specs.declared.level.Part.{Part}
 use Rattle.cic_names.specs.declared.level.Part.TheVariants.{Declared, Visible, Proof}
 use Rattle.cic_names.specs.declared.level.Level.{Level}
+use Rattle.cic_names.specs.declared.level.LevelName.{LevelName}
 use Rattle.cic_names.specs.declared.level.Level.TheVariants.{Set, Named}
 
 -- the order of two strings decides, whatever follows them
@@ -42,48 +42,43 @@ leads_append a b c d f g r s =
     ∙ f (c ++ r) (d ++ s) ∙ ap (ordering_then (byte_order a b)) (g r s)
     ∙ sym (ap (λ o. ordering_then o (byte_order r s)) (f c d) ∙ then_assoc (byte_order a b) (byte_order c d) (byte_order r s))
 
-number_leads : (p : Part) (i j : ℕ) → Leads (number_bytes p i) (number_bytes p j)
-number_leads Declared i j = same_length_leads [] [] refl
-number_leads Visible i j = same_length_leads (to_be_bytes w32 i) (to_be_bytes w32 j) refl
-number_leads Proof i j = same_length_leads (to_be_bytes w32 i) (to_be_bytes w32 j) refl
+pub part_not_set : (p : Part) → 0 ≡ part_byte p → ⊥
+part_not_set Declared e = omega (arith, e)
+part_not_set (Visible i) e = omega (arith, e)
+part_not_set (Proof i) e = omega (arith, e)
 
--- a named level
-abbrev pub spelled : Part → List ℕ → List ℕ → ℕ → List ℕ
-spelled p l o i = part_byte p ∷ (name_bytes l ++ (name_bytes o ++ number_bytes p i))
+number_leads : (p q : Part) → part_byte p ≡ part_byte q → Leads (number_bytes p) (number_bytes q)
+number_leads Declared Declared e = same_length_leads [] [] refl
+number_leads (Visible i) (Visible j) e = same_length_leads (digits i) (digits j) refl
+number_leads (Proof i) (Proof j) e = same_length_leads (digits i) (digits j) refl
+number_leads Declared (Visible j) e = absurd (omega (arith, e))
+number_leads Declared (Proof j) e = absurd (omega (arith, e))
+number_leads (Visible i) Declared e = absurd (omega (arith, e))
+number_leads (Visible i) (Proof j) e = absurd (omega (arith, e))
+number_leads (Proof i) Declared e = absurd (omega (arith, e))
+number_leads (Proof i) (Visible j) e = absurd (omega (arith, e))
 
-same_part_leads : (p : Part) (l m o k : List ℕ) (i j : ℕ) → Leads (spelled p l o i) (spelled p m k j)
-same_part_leads p l m o k i j =
-    leads_append (part_byte p ∷ []) (part_byte p ∷ []) (name_bytes l ++ (name_bytes o ++ number_bytes p i)) (name_bytes m ++ (name_bytes k ++ number_bytes p j))
-    (same_length_leads (part_byte p ∷ []) (part_byte p ∷ []) refl)
-    (leads_append (name_bytes l) (name_bytes m) (name_bytes o ++ number_bytes p i) (name_bytes k ++ number_bytes p j) (name_leads l m)
-    (leads_append (name_bytes o) (name_bytes k) (number_bytes p i) (number_bytes p j) (name_leads o k) (number_leads p i j)))
+-- two strings whose first byte decides, or else what follows it
+first_byte_leads : (x y : ℕ) (a b : List ℕ) → (x ≡ y → Leads a b) → Leads (x ∷ a) (y ∷ b)
+first_byte_leads x y a b f r s = by (nat_cmp x y) (ranked x y (nat_cmp x y) refl)
+  where
+    by : (o : Ordering) → MatchOrdering o (x < y) (x ≡ y) (y < x) →
+        ordering_then o (byte_order (a ++ r) (b ++ s)) ≡ ordering_then (ordering_then o (byte_order a b)) (byte_order r s)
+    by Less h = refl
+    by Equal h = f h r s
+    by Greater h = refl
 
-spelled_leads : (p q : Part) (l m o k : List ℕ) (i j : ℕ) → Leads (spelled p l o i) (spelled q m k j)
-spelled_leads Declared Declared l m o k i j r s = same_part_leads Declared l m o k i j r s
-spelled_leads Declared Visible l m o k i j r s = refl
-spelled_leads Declared Proof l m o k i j r s = refl
-spelled_leads Visible Declared l m o k i j r s = refl
-spelled_leads Visible Visible l m o k i j r s = same_part_leads Visible l m o k i j r s
-spelled_leads Visible Proof l m o k i j r s = refl
-spelled_leads Proof Declared l m o k i j r s = refl
-spelled_leads Proof Visible l m o k i j r s = refl
-spelled_leads Proof Proof l m o k i j r s = same_part_leads Proof l m o k i j r s
-
-set_leads : (p : Part) (l o : List ℕ) (i : ℕ) → Leads (0 ∷ []) (spelled p l o i)
-set_leads Declared l o i r s = refl
-set_leads Visible l o i r s = refl
-set_leads Proof l o i r s = refl
-
-leads_set : (p : Part) (l o : List ℕ) (i : ℕ) → Leads (spelled p l o i) (0 ∷ [])
-leads_set Declared l o i r s = refl
-leads_set Visible l o i r s = refl
-leads_set Proof l o i r s = refl
+named_leads : (a b : LevelName) → Leads (part_byte a.part ∷ named_bytes a) (part_byte b.part ∷ named_bytes b)
+named_leads a b = first_byte_leads (part_byte a.part) (part_byte b.part) (named_bytes a) (named_bytes b)
+    (λ e. leads_append (name_bytes a.lib) (name_bytes b.lib) (owner_bytes a) (owner_bytes b) (name_leads a.lib b.lib)
+    (leads_append (name_bytes a.owner) (name_bytes b.owner) (number_bytes a.part) (number_bytes b.part) (name_leads a.owner b.owner)
+    (number_leads a.part b.part e)))
 
 pub level_leads : (a b : Level) → Leads (level_bytes a) (level_bytes b)
 level_leads Set Set = same_length_leads (0 ∷ []) (0 ∷ []) refl
-level_leads Set (Named b) = set_leads b.part b.lib b.owner b.number
-level_leads (Named a) Set = leads_set a.part a.lib a.owner a.number
-level_leads (Named a) (Named b) = spelled_leads a.part b.part a.lib b.lib a.owner b.owner a.number b.number
+level_leads Set (Named b) = first_byte_leads 0 (part_byte b.part) [] (named_bytes b) (λ e. absurd (part_not_set b.part e))
+level_leads (Named a) Set = first_byte_leads (part_byte a.part) 0 (named_bytes a) [] (λ e. absurd (part_not_set a.part (sym e)))
+level_leads (Named a) (Named b) = named_leads a b
 
 -- where the first strings are equal, the rest decides
 pub rest_decides : (a b r s : List ℕ) (o p : Ordering) → Leads a b → o ≡ byte_order a b → o ≡ Equal → p ≡ byte_order r s → p ≡ byte_order (a ++ r) (b ++ s)

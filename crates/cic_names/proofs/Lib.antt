@@ -1,1 +1,4 @@
 pub mod Blocks
+pub mod ByteStrings
+pub mod OrderLaws
+pub mod Equality

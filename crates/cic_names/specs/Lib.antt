@@ -1,2 +1,3 @@
 pub mod Identifier
+pub mod Sameness
 pub mod Orders

@@ -1,6 +1,5 @@
 -- The orders of names, levels and constraints: those of their byte strings.
-use Rattle.std.specs.Prelude.{ℕ, List, [], ◌∷◌, ◌++◌, length, Bool, true, false, fold}
-use Rattle.std.specs.Int.{to_be_bytes, w32}
+use Rattle.std.specs.Prelude.{ℕ, ◌/◌, ◌%◌, List, [], ◌∷◌, ◌++◌, length, Bool, true, false, fold}
 use Rattle.std.specs.Cmp.Lexicographic.{slice_cmp}
 use Rattle.std.specs.Ordering.{nat_cmp, on}
 use Rattle.std.specs.declared.cmp.Ordering.{Ordering}
@@ -20,21 +19,25 @@ byte_order = slice_cmp nat_cmp
 abbrev pub name_bytes : List ℕ → List ℕ
 name_bytes name = length name ∷ name
 
--- A named level begins with its part.
+-- A named level begins with a byte for its part.
 abbrev pub part_byte : Part → ℕ
 part_byte Declared = 1
-part_byte Visible = 2
-part_byte Proof = 3
+part_byte (Visible n) = 2
+part_byte (Proof n) = 3
 
--- The number of an anonymous level, high byte first. A declared level has none.
-abbrev pub number_bytes : Part → ℕ → List ℕ
-number_bytes Declared n = []
-number_bytes Visible n = to_be_bytes w32 n
-number_bytes Proof n = to_be_bytes w32 n
+-- A number is written as four digits to the base 256, the highest first. Those of a number below 2 ^ 32 are its bytes.
+abbrev pub digits : ℕ → List ℕ
+digits n = n / 16777216 ∷ n / 65536 % 256 ∷ n / 256 % 256 ∷ n % 256 ∷ []
 
--- A named level after its part and library: owner, number.
+-- The number of an anonymous level. A declared level has none.
+abbrev pub number_bytes : Part → List ℕ
+number_bytes Declared = []
+number_bytes (Visible n) = digits n
+number_bytes (Proof n) = digits n
+
+-- A named level after its part and its library: owner, number.
 abbrev pub owner_bytes : LevelName → List ℕ
-owner_bytes l = name_bytes l.owner ++ number_bytes l.part l.number
+owner_bytes l = name_bytes l.owner ++ number_bytes l.part
 
 -- A named level after its part: library, owner, number.
 abbrev pub named_bytes : LevelName → List ℕ

@@ -8,8 +8,8 @@ ghost use Rattle.std.specs.Ordering.{is_eq};
 ghost use Rattle.cic_names.specs.Orders.{constraint_bytes, constraint_order, insert_constraint, insert_constraints};
 
 use crate::level::Level;
-use crate::name::NoMemory;
 use crate::order::constraint_order;
+use memory::NoMemory;
 use std::alloc::Global;
 use std::cmp::Ordering;
 use std::collections::BTreeSet;

@@ -1,7 +1,8 @@
 //! Universe levels, and the sorts of terms.
 ghost use Rattle.std.specs.Prelude.{◌≡◌, IfOk, ◌↔◌, IsTrue, length, ◌≤◌, ◌++◌, ◌∷◌, []};
 
-use crate::name::{LibName, Name, NoMemory};
+use crate::name::{LibName, Name};
+use memory::NoMemory;
 use std::alloc::Global;
 use std::marker::Model;
 use std::rc::Rc;
@@ -9,12 +10,12 @@ use std::rc::Rc;
 /// Which part of a declaration, or which sentence, a level comes from.
 #[derive(Clone, Copy, Debug, PartialEq, Eq, Hash)]
 pub enum Part {
-    /// A level that a sentence `Universe` declares. Its number is 0.
+    /// A level that a sentence `Universe` declares.
     Declared,
-    /// An anonymous level of what other libraries can see.
-    Visible,
-    /// An anonymous level of an opaque body.
-    Proof,
+    /// An anonymous level of what other libraries can see. The number counts those of the owner.
+    Visible(u32),
+    /// An anonymous level of an opaque body. The number counts those of the owner.
+    Proof(u32),
 }
 
 /// A named universe level.
@@ -24,8 +25,6 @@ pub struct LevelName {
     /// The declaration that brings the level, or the declared level itself.
     pub owner: Name,
     pub part: Part,
-    /// Counts the anonymous levels of the owner and the part.
-    pub number: u32,
 }
 
 /// A universe level: `Set`, which is the least, or a named one.
@@ -76,7 +75,6 @@ impl LevelName {
             lib: self.lib.copy()?,
             owner: self.owner.copy()?,
             part: self.part,
-            number: self.number,
         })
     }
 
@@ -84,10 +82,7 @@ impl LevelName {
     pub fn same(&self, other: &LevelName) -> bool
         ensures { IsTrue result ↔ (self.now ≡ other.now) }
     {
-        self.number == other.number
-            && self.part == other.part
-            && self.owner.same(&other.owner)
-            && self.lib.same(&other.lib)
+        self.part == other.part && self.owner.same(&other.owner) && self.lib.same(&other.lib)
     }
 }
 

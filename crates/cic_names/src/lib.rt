@@ -2,11 +2,14 @@
 #![tactic(auto)]
 
 mod constraint;
+mod laws;
 mod level;
 mod name;
 mod order;
 
 pub use constraint::{Constraint, Constraints};
+pub use laws::{orders_are_total, orders_decide_equality, tests_decide_equality};
 pub use level::{Atom, Expr, Level, LevelName, Part, Sort};
-pub use name::{GlobalId, LibName, Name, NameFault, NoMemory};
+pub use memory::NoMemory;
+pub use name::{GlobalId, LibName, Name, NameFault};
 pub use order::{constraint_order, level_order, name_order};

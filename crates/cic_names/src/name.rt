@@ -10,16 +10,13 @@ ghost use Rattle.std.proofs.Common.{rules};
 ghost use Rattle.cic_names.specs.Identifier.{is_first, is_further, is_word, is_one_of, sort_words, binder_words, match_words, is_reserved, IsIdentifier};
 ghost use Rattle.std.specs.List.{list_all};
 
+use memory::NoMemory;
 use std::alloc::Global;
 use std::cmp::Ordering;
 use std::hash::{Hash, Hasher};
 use std::marker::Model;
 use std::rc::RcStr;
 use thiserror::Error;
-
-/// There was no memory for what was asked.
-#[derive(Clone, Copy, Debug, PartialEq, Eq)]
-pub struct NoMemory;
 
 /// Why bytes are no `Name`.
 #[derive(Clone, Copy, Debug, PartialEq, Eq, Error)]

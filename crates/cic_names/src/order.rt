@@ -13,8 +13,8 @@ fn part_byte(part: Part) -> u8
 {
     match part {
         Part::Declared => 1,
-        Part::Visible => 2,
-        Part::Proof => 3,
+        Part::Visible(_) => 2,
+        Part::Proof(_) => 3,
     }
 }
 
@@ -29,28 +29,32 @@ pub fn name_order(a: &Name, b: &Name) -> Ordering
     }
 }
 
-fn number_order(part: Part, a: u32, b: u32) -> Ordering
-    ensures { result ≡ byte_order (number_bytes part a) (number_bytes part b) }
+/// Orders parts of one kind by their numbers.
+#[tactic(auto, using(crate::proofs::OrderLaws::digits_order))]
+fn number_order(a: Part, b: Part) -> Ordering
+    requires { part_byte a ≡ part_byte b }
+    ensures { result ≡ byte_order (number_bytes a) (number_bytes b) }
 {
-    match part {
-        Part::Declared => Ordering::Equal,
-        Part::Visible | Part::Proof => a.to_be_bytes().cmp(&b.to_be_bytes()),
+    match (a, b) {
+        (Part::Visible(a), Part::Visible(b)) => a.cmp(&b),
+        (Part::Proof(a), Part::Proof(b)) => a.cmp(&b),
+        _ => Ordering::Equal,
     }
 }
 
 fn owner_order(a: &LevelName, b: &LevelName) -> Ordering
-    requires { a.now.part ≡ b.now.part }
+    requires { part_byte a.now.part ≡ part_byte b.now.part }
     ensures { result ≡ byte_order (owner_bytes a.now) (owner_bytes b.now) }
 {
     match name_order(&a.owner, &b.owner) {
-        Ordering::Equal => number_order(a.part, a.number, b.number),
+        Ordering::Equal => number_order(a.part, b.part),
         unequal => unequal,
     }
 }
 
-/// Orders the named levels of one part.
+/// Orders the named levels of one kind.
 fn named_order(a: &LevelName, b: &LevelName) -> Ordering
-    requires { a.now.part ≡ b.now.part }
+    requires { part_byte a.now.part ≡ part_byte b.now.part }
     ensures { result ≡ byte_order (named_bytes a.now) (named_bytes b.now) }
 {
     match name_order(&a.lib, &b.lib) {
@@ -67,8 +71,10 @@ pub fn level_order(a: &Level, b: &Level) -> Ordering
         (Level::Set, Level::Set) => Ordering::Equal,
         (Level::Set, Level::Named(_)) => Ordering::Less,
         (Level::Named(_), Level::Set) => Ordering::Greater,
-        (Level::Named(a), Level::Named(b)) if a.part == b.part => named_order(a, b),
-        (Level::Named(a), Level::Named(b)) => part_byte(a.part).cmp(&part_byte(b.part)),
+        (Level::Named(a), Level::Named(b)) => match part_byte(a.part).cmp(&part_byte(b.part)) {
+            Ordering::Equal => named_order(a, b),
+            unequal => unequal,
+        },
     }
 }
 

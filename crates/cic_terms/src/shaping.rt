@@ -1,11 +1,11 @@
-//! Laws: what each `fix` and each level of a term has stays under lifting and substitution.
+//! Laws: what each `fix` of a term has stays under lifting and substitution.
 ghost use Rattle.cic_terms.specs.Denotes.{tree};
 ghost use Rattle.cic_terms.specs.Lift.{lift_tree, subst_tree};
 ghost use Rattle.cic_terms.specs.WellShaped.{WellShaped};
 
 use crate::term::Term;
 
-/// A lift of a term whose every `fix` has its function and its recursive domains, and whose declared levels have number 0, is such a term.
+/// A lift of a term whose every `fix` has its function and its recursive domains is such a term.
 pub fn lift_stays_well_shaped(t: &Term, from: u32, by: u32)
     requires { WellShaped (tree t.now) }
     ensures { WellShaped (lift_tree from by (tree t.now)) }

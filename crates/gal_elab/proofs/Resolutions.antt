@@ -9,13 +9,14 @@ use Rattle.cic_terms.specs.Tree.{Tree, const}
 use Rattle.cic_terms.specs.Denotes.{tree}
 use Rattle.cic_terms.specs.declared.term.Term.{Term}
 use Rattle.cic_names.specs.declared.name.GlobalId.{GlobalId}
-use Rattle.cic_rules.specs.Sameness.{same_id}
+use Rattle.cic_names.specs.Sameness.{same_id}
 use Rattle.cic_rules.specs.Environment.{Environment, environment_ids}
-use Rattle.cic_env.proofs.Lookups.{same_id-true, same_id-refl}
+use Rattle.cic_names.proofs.Equality.{same_id_decides}
 use Rattle.gal_parser.specs.Grammar as G
 use Rattle.gal_elab.specs.Scoping.{Binders, NamesNone, id_of, StandsFor, prop_stands, variable_stands, constant_stands, for_all_stands, arrow_stands, FirstUnknown, unknown_name, unknown_in_type, unknown_in_body, unknown_before_arrow, unknown_behind_arrow}
 use Rattle.gal_elab.specs.Resolving.{Levels, put, Resolved, found, unknown, is_among, constant_or_unknown, resolve_name, product, resolve}
-use Rattle.gal_elab.specs.Answers.{Tells, TellsProduct, levels_in}
+use Rattle.gal_elab.specs.Answers.{reason, Resolves, MakesProduct, levels_in}
+use Rattle.memory.specs.Telling.{Tells}
 use Rattle.gal_elab.specs.declared.elaborating.ElabFault.{ElabFault}
 use Rattle.gal_elab.specs.declared.elaborating.ElabFault.TheVariants.{Unknown, NoMemory}
 use Rattle.gal_elab.proofs.Levelled.{levels_of, LevelTells, level_tells}
@@ -25,7 +26,7 @@ true-false h = cc
 
 first_or_later : (id first : GlobalId) (rest : List GlobalId) (b : Bool) → same_id first id ≡ b → b || is_among id rest ≡ true →
     (is_among id rest ≡ true → Contains rest id) → Contains (first ∷ rest) id
-first_or_later id first rest true same is later = (0, omega arith, same_id-true first id same)
+first_or_later id first rest true same is later = (0, omega arith, (same_id_decides first id).0 same)
 first_or_later id first rest false same is later = let there = later is in (suc there.0, omega (arith, there.1), there.2)
 
 pub among-contained : (id : GlobalId) (ids : List GlobalId) → is_among id ids ≡ true → Contains ids id
@@ -38,7 +39,7 @@ second_false false b is = is
 
 pub among-all : (id : GlobalId) (ids : List GlobalId) → is_among id ids ≡ false → Contains ids id → ⊥
 among-all id [] is has = omega (arith, has.1)
-among-all id (first ∷ rest) is (zero, within, same) = true-false (sym (subst (λ k. same_id k id || is_among id rest ≡ true) (sym same) (rw (same_id-refl id) refl)) ∙ is)
+among-all id (first ∷ rest) is (zero, within, same) = true-false (sym (subst (λ k. same_id k id || is_among id rest ≡ true) (sym same) (rw ((same_id_decides id id).1 refl) refl)) ∙ is)
 among-all id (first ∷ rest) is (suc k, within, same) = among-all id rest (second_false (same_id first id) (is_among id rest) is) (k, omega (arith, within), same)
 
 pub contained-among : (id : GlobalId) (ids : List GlobalId) → Contains ids id → is_among id ids ≡ true
@@ -114,22 +115,21 @@ undeclared_is_unknown library name ids id answer told is named =
     ∙ ap (λ i. unknown i.name) (sym named)
 
 -- A fault of the left part is the product's.
-pub tells_left : (e : ElabFault) (left right : Resolved) → Tells (Err e) left → Tells (Err e) (product left right)
+pub tells_left : (e : ElabFault) (left right : Resolved) → Resolves (Err e) left → Resolves (Err e) (product left right)
 tells_left (Unknown name) left right told = ap (λ part. product part right) told
 tells_left NoMemory left right told = tt
 
 -- What came of the right part is the product's, where the left part is a term.
 pub tells_product : (a : Term) (codomain answer : Result Term ElabFault) (left right : Resolved) →
-    Tells (Ok a) left → Tells codomain right → TellsProduct (tree a) codomain answer → Tells answer (product left right)
+    Resolves (Ok a) left → Resolves codomain right → MakesProduct (tree a) codomain answer → Resolves answer (product left right)
 tells_product a codomain (Err NoMemory) left right told told' is = tt
 tells_product a (Ok b) (Ok t) left right told told' is = ap (λ part. product part right) told ∙ ap (product (found (tree a))) told' ∙ ap found (sym is)
-tells_product a (Ok b) (Err (Unknown name)) left right told told' is = absurd is
 tells_product a (Err e) (Ok t) left right told told' is = absurd is
-tells_product a (Err e) (Err (Unknown name)) left right told told' is =
-    ap (λ part. product part right) told ∙ ap (product (found (tree a))) (subst (λ fault. Tells (Err fault) right) is told')
+tells_product a codomain (Err (Unknown name)) left right told told' is =
+    ap (λ part. product part right) told ∙ ap (product (found (tree a))) (subst (λ c. Resolves c right) is told')
 
 -- The product is a term only where the codomain is.
-pub ok_product : (domain : Tree) (codomain answer : Result Term ElabFault) (P : Type 0) → TellsProduct domain codomain answer → OnOk codomain P → OnOk answer P
+pub ok_product : (domain : Tree) (codomain answer : Result Term ElabFault) (P : Type 0) → MakesProduct domain codomain answer → OnOk codomain P → OnOk answer P
 ok_product domain codomain (Err fault) P is holds = tt
 ok_product domain (Ok b) (Ok t) P is holds = holds
 ok_product domain (Err e) (Ok t) P is holds = absurd is
@@ -140,12 +140,10 @@ empty_levels map is = ap (λ es. λ (name : List ℕ). lookup (pointwise nat_eq 
 
 -- The whole term, under no binder.
 abbrev pub Settles : (library : List ℕ) → Environment → G.RawTerm → Result Term ElabFault → Type 0
-Settles library E raw (Ok t) = StandsFor library E [] raw (tree t)
-Settles library E raw (Err (Unknown name)) = FirstUnknown library E [] raw name
-Settles library E raw (Err NoMemory) = Unit {0}
+Settles library E raw result = Tells reason result (λ t. StandsFor library E [] raw (tree t)) (FirstUnknown library E [] raw)
 
 pub settles : (library : List ℕ) (E : Environment) (raw : G.RawTerm) (levels : Levels) (result : Result Term ElabFault) →
-    levels ≡ levels_of [] → Tells result (resolve library E levels 0 raw) → Settles library E raw result
+    levels ≡ levels_of [] → Resolves result (resolve library E levels 0 raw) → Settles library E raw result
 settles library E raw levels (Ok t) none told =
     subst (Agrees library E [] raw) (ap (λ l. resolve library E l 0 raw) (sym none) ∙ told) (resolve-agrees library E [] raw)
 settles library E raw levels (Err (Unknown name)) none told =

@@ -1,5 +1,6 @@
 -- What the calls that look names up answer.
-use Rattle.std.specs.Prelude.{ℕ, ◌≡◌, nat_eq, List, Result, Ok, Err}
+use Rattle.std.specs.Prelude.{ℕ, ◌≡◌, nat_eq, List, Option, Some, None, Result, IsOkAnd, IsErrOf}
+use Rattle.memory.specs.Telling.{Tells, IfReason}
 use Rattle.std.specs.HashMap.{HashMap, get}
 use Rattle.std.specs.Cmp.Lexicographic.{pointwise}
 use Rattle.cic_terms.specs.Tree.{Tree, prod}
@@ -9,25 +10,23 @@ use Rattle.gal_elab.specs.Resolving.{Levels, Resolved, found, unknown}
 use Rattle.gal_elab.specs.declared.elaborating.ElabFault.{ElabFault}
 use Rattle.gal_elab.specs.declared.elaborating.ElabFault.TheVariants.{Unknown, NoMemory}
 
+-- The one reason why there is no term: a name that is unknown.
+abbrev pub reason : ElabFault → Option (List ℕ)
+reason (Unknown name) = Some name
+reason NoMemory = None
+
 -- The fact holds of the name where a name is unknown.
 abbrev pub OnUnknown : {A : Type 0} → Result A ElabFault → (List ℕ → Type 0) → Type 0
-OnUnknown (Ok _) P = Unit {0}
-OnUnknown (Err (Unknown name)) P = P name
-OnUnknown (Err NoMemory) P = Unit {0}
+OnUnknown result P = IfReason reason result P
 
 -- The answer is what comes of the written term, or there was no memory.
-abbrev pub Tells : Result Term ElabFault → Resolved → Type 0
-Tells (Ok t) resolved = resolved ≡ found (tree t)
-Tells (Err (Unknown name)) resolved = resolved ≡ unknown name
-Tells (Err NoMemory) resolved = Unit {0}
+abbrev pub Resolves : Result Term ElabFault → Resolved → Type 0
+Resolves result resolved = Tells reason result (λ t. resolved ≡ found (tree t)) (λ name. resolved ≡ unknown name)
 
 -- The answer is the product of the domain and a codomain, or the fault of the codomain, or there was no memory.
-abbrev pub TellsProduct : (domain : Tree) → Result Term ElabFault → Result Term ElabFault → Type 0
-TellsProduct domain codomain (Err NoMemory) = Unit {0}
-TellsProduct domain (Ok codomain) (Ok t) = tree t ≡ prod domain (tree codomain)
-TellsProduct domain (Ok codomain) (Err (Unknown name)) = ⊥
-TellsProduct domain (Err fault) (Ok t) = ⊥
-TellsProduct domain (Err fault) (Err (Unknown name)) = fault ≡ Unknown name
+abbrev pub MakesProduct : (domain : Tree) → Result Term ElabFault → Result Term ElabFault → Type 0
+MakesProduct domain codomain result =
+    Tells reason result (λ t. IsOkAnd codomain (λ u. tree t ≡ prod domain (tree u))) (λ name. IsErrOf codomain (Unknown name))
 
 -- The levels that a map holds.
 abbrev pub levels_in : {S : Type 0} → HashMap (List ℕ) ℕ S → Levels

@@ -4,7 +4,7 @@ use Rattle.std.specs.Prelude.{ℕ, ◌+◌, ◌-◌, Bool, true, false, ◌||◌
 use Rattle.std.specs.Cmp.Lexicographic.{pointwise}
 use Rattle.cic_terms.specs.Tree.{Tree, rel, sort, prop, prod, const}
 use Rattle.cic_names.specs.declared.name.GlobalId.{GlobalId}
-use Rattle.cic_rules.specs.Sameness.{same_id}
+use Rattle.cic_names.specs.Sameness.{same_id}
 use Rattle.cic_rules.specs.Environment.{Environment, environment_ids}
 use Rattle.gal_parser.specs.Grammar as G
 use Rattle.gal_elab.specs.Scoping.{id_of}

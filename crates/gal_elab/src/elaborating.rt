@@ -7,13 +7,14 @@ ghost use Rattle.cic_env.specs.Environments.{items};
 ghost use Rattle.gal_parser.specs.Views.{raw_term};
 ghost use Rattle.gal_elab.specs.Scoping.{id_of, StandsFor, FirstUnknown};
 ghost use Rattle.gal_elab.specs.Resolving.{resolve, resolve_name, put};
-ghost use Rattle.gal_elab.specs.Answers.{OnUnknown, Tells, TellsProduct, levels_in};
+ghost use Rattle.gal_elab.specs.Answers.{OnUnknown, Resolves, MakesProduct, levels_in};
 
 use crate::levels::{Levels, enter, leave};
 use cic_env::Env;
-use cic_names::{GlobalId, Name, NoMemory, Sort};
+use cic_names::{GlobalId, Name, Sort};
 use cic_terms::Term;
 use gal_parser::Raw;
+use memory::{NoMemory, OutOfMemory};
 use std::alloc::Global;
 use std::collections::HashMap;
 use std::rc::Rc;
@@ -27,12 +28,12 @@ pub enum ElabFault {
     NoMemory,
 }
 
-impl From<NoMemory> for ElabFault {
+impl<E: OutOfMemory> From<E> for ElabFault {
     ghost use Rattle.gal_elab.specs.declared.elaborating.ElabFault.TheVariants as F;
 
-    ghost from_gives = { λ _ e. e ≡ F.NoMemory };
+    ghost from_gives = { λ _ fault. fault ≡ F.NoMemory };
 
-    fn from(_: NoMemory) -> ElabFault {
+    fn from(_fault: E) -> ElabFault {
         ElabFault::NoMemory
     }
 }
@@ -56,7 +57,7 @@ fn id_of(library: &Name, name: &Name) -> Result<GlobalId, NoMemory>
 
 /// What a name stands for under so many binders.
 fn named(library: &Library<'_>, levels: &Levels, depth: u32, name: &Name) -> Result<Term, ElabFault>
-    ensures { Tells result (resolve_name library.now.name.now (items library.now.env.now) (levels_in levels.now name.now) depth name.now) }
+    ensures { Resolves result (resolve_name library.now.name.now (items library.now.env.now) (levels_in levels.now name.now) depth name.now) }
 {
     if let Some(level) = levels.get(name) {
         return Ok(Term::Rel(depth.saturating_sub(1).saturating_sub(*level)));
@@ -82,16 +83,10 @@ fn product(
     domain: Term,
     codomain: Result<Term, ElabFault>,
 ) -> Result<Term, ElabFault>
-    ensures { TellsProduct (tree domain) codomain result }
+    ensures { MakesProduct (tree domain) codomain result }
 {
-    let codomain = codomain?;
-    let Ok(domain) = Rc::new(alloc, domain) else {
-        return Err(ElabFault::NoMemory);
-    };
-    match Rc::new(alloc, codomain) {
-        Ok(codomain) => Ok(Term::Prod(domain, codomain)),
-        Err(_) => Err(ElabFault::NoMemory),
-    }
+    let codomain = Rc::new(alloc, codomain?)?;
+    Ok(Term::Prod(Rc::new(alloc, domain)?, codomain))
 }
 
 /// What a written term stands for under so many binders of these levels, which are the same afterwards.
@@ -103,7 +98,7 @@ fn elab(
     depth: u32,
     raw: &Raw,
 ) -> Result<Term, ElabFault>
-    ensures told { Tells result (resolve library.now.name.now (items library.now.env.now) (levels_in levels.old) depth (raw_term raw.now)) }
+    ensures told { Resolves result (resolve library.now.name.now (items library.now.env.now) (levels_in levels.old) depth (raw_term raw.now)) }
     ensures same { OnOk result (levels_in levels.new ≡ levels_in levels.old) }
 {
     match raw {
@@ -132,7 +127,7 @@ fn bound(
     binder: &Name,
     body: &Raw,
 ) -> Result<Term, ElabFault>
-    ensures told { Tells result (resolve library.now.name.now (items library.now.env.now) (put binder.now (Some depth) (levels_in levels.old)) (depth + 1) (raw_term body.now)) }
+    ensures told { Resolves result (resolve library.now.name.now (items library.now.env.now) (put binder.now (Some depth) (levels_in levels.old)) (depth + 1) (raw_term body.now)) }
     ensures same { OnOk result (levels_in levels.new ≡ levels_in levels.old) }
 {
     let hidden = enter(levels, binder, depth)?;
@@ -150,7 +145,7 @@ fn behind(
     depth: u32,
     raw: &Raw,
 ) -> Result<Term, ElabFault>
-    ensures told { Tells result (resolve library.now.name.now (items library.now.env.now) (levels_in levels.old) (depth + 1) (raw_term raw.now)) }
+    ensures told { Resolves result (resolve library.now.name.now (items library.now.env.now) (levels_in levels.old) (depth + 1) (raw_term raw.now)) }
     ensures same { OnOk result (levels_in levels.new ≡ levels_in levels.old) }
 {
     elab(alloc, library, levels, deeper(depth)?, raw)

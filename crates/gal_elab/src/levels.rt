@@ -4,7 +4,8 @@ ghost use Rattle.std.specs.Prelude.{◌≡◌, IfOk, OnOk, Some};
 ghost use Rattle.gal_elab.specs.Resolving.{put};
 ghost use Rattle.gal_elab.specs.Answers.{levels_in};
 
-use cic_names::{Name, NoMemory};
+use cic_names::Name;
+use memory::NoMemory;
 use std::collections::HashMap;
 
 /// From a name to the level of its innermost binder, which is the number of binders outside it.
@@ -15,10 +16,7 @@ pub(crate) fn enter(levels: &mut Levels, name: &Name, level: u32) -> Result<Opti
     ensures hidden { IfOk result (λ hidden. hidden ≡ levels_in levels.old name.now) }
     ensures levels { OnOk result (levels_in levels.new ≡ put name.now (Some level) (levels_in levels.old)) }
 {
-    match levels.insert(name.copy()?, level) {
-        Ok(hidden) => Ok(hidden),
-        Err(_) => Err(NoMemory),
-    }
+    Ok(levels.insert(name.copy()?, level)?)
 }
 
 /// Gives the name the level that it had before.

@@ -1,5 +1,6 @@
 -- What the calls of the parser answer.
-use Rattle.std.specs.Prelude.{ℕ, Bool, true, false, List, ◌≡◌, codes, Result, Ok, Err, Option, Some, None}
+use Rattle.std.specs.Prelude.{ℕ, Bool, true, false, List, ◌≡◌, codes, Result, Option, Some, None, ⊤}
+use Rattle.memory.specs.Telling.{OrNoMemory, Tells, IfReason}
 use Rattle.gal_parser.specs.Tokens.{after_blanks, SpellsIdentifier, SpellsColon, SpellsSymbol}
 use Rattle.gal_parser.specs.Grammar.{RawTerm, for_all, SpellsTerm, Sentence, SpellsSentence, SpellsSentences}
 use Rattle.gal_parser.specs.declared.lexer.Fault.{Fault}
@@ -7,15 +8,18 @@ use Rattle.gal_parser.specs.declared.lexer.Fault.TheVariants.{NoMatch, NoMemory}
 use Rattle.gal_parser.specs.declared.parser.ParseFault.{ParseFault}
 use Rattle.gal_parser.specs.declared.parser.ParseFault.TheVariants as P
 
+-- the one reason why nothing is read: that nothing of the kind stands there
+abbrev pub no_match : Fault → Option ⊤
+no_match NoMatch = Some tt
+no_match NoMemory = None
+
 -- nothing is such, unless memory ran out
 abbrev pub Lacks : {Y : Type 0} → Fault → (List ℕ → Y → Type 0) → Type 0
-Lacks {Y = Y} NoMatch R = (r : List ℕ) (y : Y) → R r y → ⊥
-Lacks NoMemory R = Unit {0}
+Lacks {Y = Y} fault R = OrNoMemory (no_match fault) (λ _. (r : List ℕ) (y : Y) → R r y → ⊥)
 
 -- an x of the relation was read from old to new, or old begins with none, or memory ran out
 abbrev pub Takes : {X Y : Type 0} → (List ℕ → List ℕ → Y → Type 0) → (X → Y) → Result X Fault → List ℕ → List ℕ → Type 0
-Takes R value (Ok x) old new = R old new (value x)
-Takes R value (Err e) old new = Lacks e (R old)
+Takes {Y = Y} R value result old new = Tells no_match result (λ x. R old new (value x)) (λ _. (r : List ℕ) (y : Y) → R old r y → ⊥)
 
 -- the token was read from old to new, or old begins with none and is left
 abbrev pub TakesIf : (List ℕ → List ℕ → Type 0) → Bool → List ℕ → List ℕ → Type 0
@@ -42,8 +46,11 @@ pub data SpellsBinding : ℕ → List ℕ → List ℕ → RawTerm → Type 0 wh
       SpellsTerm room d r body →
       SpellsBinding room s r (for_all x type body)
 
+-- the one reason why a source gives no sentences: the place from which on it is not understood
+abbrev pub not_yet_place : ParseFault → Option ℕ
+not_yet_place (P.NotYet place) = Some place
+not_yet_place P.NoMemory = None
+
 -- the fact of the place that is answered, if one is
 abbrev pub OnNotYet : {X : Type 0} → Result X ParseFault → (ℕ → Type 0) → Type 0
-OnNotYet (Ok x) Q = Unit {0}
-OnNotYet (Err (P.NotYet place)) Q = Q place
-OnNotYet (Err P.NoMemory) Q = Unit {0}
+OnNotYet result Q = IfReason not_yet_place result Q

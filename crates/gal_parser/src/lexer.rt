@@ -7,7 +7,8 @@ ghost use Rattle.gal_parser.specs.declared.lexer.Fault.TheVariants.{NoMemory};
 ghost use Rattle.gal_parser.specs.Tokens.{is_blank, after_blanks, begins_word, continues_word, first_passes, ends_or_blank, SpellsWord, SpellsIdentifier, SpellsColon, SpellsStop, SpellsSymbol};
 
 use cic_names::{Name, NameFault};
-use std::alloc::{AllocFailed, Global};
+use memory::OutOfMemory;
+use std::alloc::Global;
 
 /// Why something could not be read: what is left does not begin with it, or memory ran out.
 #[derive(Debug, Drop)]
@@ -16,10 +17,10 @@ pub enum Fault {
     NoMemory,
 }
 
-impl<T: Drop> From<AllocFailed<T>> for Fault {
-    ghost from_gives = { λ _ e. e ≡ NoMemory };
+impl<E: OutOfMemory> From<E> for Fault {
+    ghost from_gives = { λ _ fault. fault ≡ NoMemory };
 
-    fn from(_: AllocFailed<T>) -> Fault {
+    fn from(_fault: E) -> Fault {
         Fault::NoMemory
     }
 }

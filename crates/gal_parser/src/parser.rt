@@ -7,7 +7,7 @@ ghost use Rattle.gal_parser.specs.Views.{raw_term, sentence_of, sentences_of};
 
 use crate::command::{Command, Commands, Raw};
 use crate::lexer::{Fault, Reader, after_blanks};
-use cic_names::NoMemory;
+use memory::{NoMemory, OutOfMemory};
 use std::alloc::Global;
 
 /// Why a source gives no sentences.
@@ -19,12 +19,12 @@ pub enum ParseFault {
     NoMemory,
 }
 
-impl From<NoMemory> for ParseFault {
+impl<E: OutOfMemory> From<E> for ParseFault {
     ghost use Rattle.gal_parser.specs.declared.parser.ParseFault.TheVariants as P;
 
-    ghost from_gives = { λ _ e. e ≡ P.NoMemory };
+    ghost from_gives = { λ _ fault. fault ≡ P.NoMemory };
 
-    fn from(_: NoMemory) -> ParseFault {
+    fn from(_fault: E) -> ParseFault {
         ParseFault::NoMemory
     }
 }
@@ -120,7 +120,7 @@ fn sentences(alloc: Global, reader: &mut Reader) -> Result<Vec<Command>, NoMemor
 {
     let mut items = Vec::new(alloc);
     while let Some(command) = next_sentence(alloc, reader)? {
-        items.push(command).map_err(|_| NoMemory)?;
+        items.push(command)?;
     }
     Ok(items)
 }

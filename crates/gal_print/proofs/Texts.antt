@@ -1,9 +1,9 @@
 -- Each term that is printed has a text under any number of binders, and only these terms have one. What
 -- prints such a term needs the one, and what is asked for its text the other.
-use Rattle.std.proofs.Common.{ℕ, ◌+◌, List, ◌≡◌, refl, inl, inr, ◌⊎◌, arith}
+use Rattle.std.proofs.Common.{ℕ, ◌+◌, List, refl, inl, inr, ◌⊎◌}
 use Rattle.std.proofs.lemmas.Bool.{cases_eq, cases_lt}
 use Rattle.cic_terms.specs.Tree.{ProdF, none, one, Tree, rel, node, Children, no_child, child, over}
-use Rattle.gal_print.specs.Printing.{Uses, PartsUse, IsProduct, HasText, prop_has_text, variable_has_text, constant_has_text, product_has_text, Prints, prints_prop, prints_constant, prints_variable, prints_free_variable, prints_arrow, prints_product, PrintsLeft, in_parentheses, as_it_is}
+use Rattle.gal_print.specs.Printing.{Uses, PartsUse, HasText, prop_has_text, variable_has_text, constant_has_text, product_has_text, Prints, prints_prop, prints_constant, prints_variable, prints_free_variable, prints_arrow, prints_product, PrintsLeft, in_parentheses, as_it_is}
 
 mutual
   pub printed_has_text : {n : ℕ} {t : Tree} {x : List ℕ} → Prints n t x → HasText t

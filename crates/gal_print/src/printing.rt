@@ -1,30 +1,25 @@
-ghost use Rattle.std.specs.Prelude.{◌≡◌, ◌++◌, ◌↔◌, ℕ, List, IfOk, OnOk, IsTrue, codes, decimal, string_bytes};
+ghost use Rattle.std.specs.Prelude.{◌≡◌, ◌+◌, ◌++◌, ◌↔◌, ℕ, List, IfOk, OnOk, IsTrue, codes, decimal, string_bytes};
 ghost use Rattle.cic_terms.specs.Denotes.{tree};
 ghost use Rattle.cic_terms.specs.Tree.{Tree, rel};
 ghost use Rattle.gal_print.specs.Printing.{id_text, Uses, IsProduct, HasText, Prints, PrintsLeft};
 ghost use Rattle.gal_print.specs.Appending.{Appends};
 
-use cic_names::{GlobalId, NoMemory, Sort};
+use cic_names::{GlobalId, Sort};
 use cic_terms::Term;
+use memory::NoMemory;
 
 /// Adds a part of a text.
 fn push_part(text: &mut String, part: &str) -> Result<(), NoMemory>
     ensures { OnOk result (string_bytes text.new ≡ string_bytes text.old ++ part.now) }
 {
-    match text.push_str(part) {
-        Ok(()) => Ok(()),
-        Err(_) => Err(NoMemory),
-    }
+    Ok(text.push_str(part)?)
 }
 
 /// Adds a number.
 fn push_number(text: &mut String, number: u32) -> Result<(), NoMemory>
     ensures { OnOk result (string_bytes text.new ≡ string_bytes text.old ++ decimal number) }
 {
-    match write!(text, "{number}") {
-        Ok(()) => Ok(()),
-        Err(_) => Err(NoMemory),
-    }
+    write!(text, "{number}").map_err(|_| NoMemory)
 }
 
 /// Adds an id: its library, a dot, and its name.
@@ -36,6 +31,13 @@ pub fn print_id(text: &mut String, id: &GlobalId) -> Result<(), NoMemory>
     push_part(text, id.name.text())
 }
 
+/// The next number. There is no memory for a term that has use for one past 2^32.
+fn one_more(number: u32) -> Result<u32, NoMemory>
+    ensures { IfOk result (λ more. more ≡ number + 1) }
+{
+    number.checked_add(1).ok_or(NoMemory)
+}
+
 /// Whether variable `x` is used in the term.
 fn uses(t: &Term, x: u32) -> Result<bool, NoMemory>
     requires { HasText (tree t.now) }
@@ -44,9 +46,7 @@ fn uses(t: &Term, x: u32) -> Result<bool, NoMemory>
     match t {
         Term::Rel(y) => Ok(*y == x),
         Term::Prod(a, b) => {
-            let Some(inner) = x.checked_add(1) else {
-                return Err(NoMemory);
-            };
+            let inner = one_more(x)?;
             Ok(uses(a, x)? || uses(b, inner)?)
         }
         _ => Ok(false),
@@ -107,9 +107,7 @@ pub fn print_term(text: &mut String, binders: u32, t: &Term) -> Result<(), NoMem
         Term::Rel(x) => push_variable(text, binders, *x),
         Term::Const(id) => print_id(text, id),
         Term::Prod(a, b) => {
-            let Some(inner) = binders.checked_add(1) else {
-                return Err(NoMemory);
-            };
+            let inner = one_more(binders)?;
             if uses(b, 0)? {
                 push_binder(text, binders)?;
                 print_term(text, binders, a)?;

@@ -21,8 +21,7 @@ fn level(owner: &Name, number: u32) -> Result<Level, NoMemory> {
     Ok(Level::Named(LevelName {
         lib: owner.copy()?,
         owner: owner.copy()?,
-        part: Part::Visible,
-        number,
+        part: Part::Visible(number),
     }))
 }
 

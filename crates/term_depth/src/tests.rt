@@ -190,7 +190,6 @@ fn level(alloc: Global, owner: &str, part: Part) -> Result<Level, NameFault> {
         lib: Name::new(alloc, b"A")?,
         owner: Name::new(alloc, owner.as_bytes())?,
         part,
-        number: 0,
     }))
 }
 
@@ -231,7 +230,7 @@ fn constraints(rt: HostRuntime) -> Result<(), Fail> {
 fn sample_sort(alloc: Global) -> Result<Sort, Fail> {
     let mut atoms = Vec::new(alloc);
     atoms.push(Atom {
-        level: level(alloc, "u", Part::Visible)?,
+        level: level(alloc, "u", Part::Visible(0))?,
         plus: true,
     })?;
     if atoms.is_empty() {

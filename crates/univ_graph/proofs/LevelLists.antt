@@ -7,7 +7,7 @@ use Rattle.cic_names.specs.declared.level.LevelName.{LevelName}
 use Rattle.cic_names.specs.declared.level.Level.{Level}
 use Rattle.cic_names.specs.declared.level.Level.TheVariants.{Set, Named}
 use Rattle.cic_names.specs.declared.constraint.Constraint.{Constraint}
-use Rattle.cic_rules.specs.Sameness.{same_level_name}
+use Rattle.cic_names.specs.Sameness.{same_level_name}
 use Rattle.cic_rules.specs.Numbering.{Numbered, Numbering, level_number, NotNumbered, IsNumbering, MeetsAt, Meets, MeetsAll}
 use Rattle.univ_graph.specs.declared.board.Row.{Row}
 use Rattle.univ_parts.specs.declared.numbers.LevelNumber.{LevelNumber}
@@ -15,13 +15,14 @@ use Rattle.univ_parts.specs.Numbers.{constraints, numbering}
 use Rattle.univ_parts.specs.Places.{level_at, paired, rest, IsAbsent, IsAbsentLevel, count_one}
 use Rattle.univ_graph.specs.Kept.{with_name, with_level, with_ends, levels_from, levels_of}
 use Rattle.univ_graph.specs.Boards.{at, tagged, AreNumbers, IsTied, IsMet}
-use Rattle.univ_parts.proofs.Sameness.{name_same, name_self, true_or_false, number_here, number_later}
+use Rattle.cic_names.proofs.Equality.{same_level_name_decides}
+use Rattle.univ_parts.proofs.LevelNumbers.{true_or_false, number_here, number_later}
 use Rattle.univ_parts.proofs.AtPlaces.{same_some, get_last, get_old}
 
 pub with_known : (names : List LevelName) (l : LevelName) (p : ℕ) → slice_get names p ≡ Some l → with_name names l ≡ names
 with_known [] l p h = absurd (cc)
 with_known (n ∷ names) l zero h =
-    let s : same_level_name n l ≡ true = subst (λ x. same_level_name n x ≡ true) (same_some n l h) (name_self n) in rw s refl
+    let s : same_level_name n l ≡ true = subst (λ x. same_level_name n x ≡ true) (same_some n l h) ((same_level_name_decides n n).1 refl) in rw s refl
 with_known (n ∷ names) l (suc p) h = elim (true_or_false (same_level_name n l)) [
   | inl t ↦ rw t refl
   | inr f ↦ rw f (ap (λ z. n ∷ z) (with_known names l p h))
@@ -30,7 +31,7 @@ with_known (n ∷ names) l (suc p) h = elim (true_or_false (same_level_name n l)
 pub with_new : (names : List LevelName) (l : LevelName) → IsAbsent l names → with_name names l ≡ names ++ l ∷ []
 with_new [] l h = refl
 with_new (n ∷ names) l h = elim (true_or_false (same_level_name n l)) [
-  | inl t ↦ absurd (h 0 (ap Some (name_same n l t)))
+  | inl t ↦ absurd (h 0 (ap Some ((same_level_name_decides n l).0 t)))
   | inr f ↦ rw f (ap (λ z. n ∷ z) (with_new names l (λ p. h (suc p))))
 ]
 
@@ -58,7 +59,7 @@ distinct_with (n ∷ names) l h = elim (true_or_false (same_level_name n l)) [
 ]
   where
     differ : (a b : LevelName) → same_level_name a b ≡ false → b ≡ a → ⊥
-    differ a b f e = let t : same_level_name a b ≡ true = subst (λ x. same_level_name a x ≡ true) (sym e) (name_self a) in absurd (cc)
+    differ a b f e = let t : same_level_name a b ≡ true = subst (λ x. same_level_name a x ≡ true) (sym e) ((same_level_name_decides a a).1 refl) in absurd (cc)
 
 distinct_level : (names : List LevelName) (l : Level) → AreDistinct names → AreDistinct (with_level names l)
 distinct_level names Set h = h

@@ -6,7 +6,7 @@ use Rattle.cic_names.specs.declared.level.LevelName.{LevelName}
 use Rattle.cic_names.specs.declared.level.Level.{Level}
 use Rattle.cic_names.specs.declared.level.Level.TheVariants.{Set, Named}
 use Rattle.cic_names.specs.declared.constraint.Constraint.{Constraint}
-use Rattle.cic_rules.specs.Sameness.{same_level_name}
+use Rattle.cic_names.specs.Sameness.{same_level_name}
 use Rattle.cic_rules.specs.Numbering.{Numbering, level_number, IsNumbering, Meets, MeetsAll, Consistent, IsCycle}
 use Rattle.univ_parts.specs.declared.cycle.Tagged.{Tagged}
 use Rattle.univ_parts.specs.declared.cycle.Tag.TheVariants as T
@@ -19,7 +19,8 @@ use Rattle.univ_parts.specs.Places.{Kept, level_at, paired, rest}
 use Rattle.univ_graph.specs.Kept.{AreStepsAmong, Answers, IsWitness, with_ends, named_levels, level_count, level_limit}
 use Rattle.univ_parts.specs.Bands.{AreBands}
 use Rattle.univ_graph.specs.Boards.{at, tagged, kept, kept_of, AreNumbers, IsSound, IsWhole, AreWhole, IsConflictAmong}
-use Rattle.univ_parts.proofs.Sameness.{true_or_false, number_here, name_same}
+use Rattle.cic_names.proofs.Equality.{same_level_name_decides}
+use Rattle.univ_parts.proofs.LevelNumbers.{true_or_false, number_here}
 use Rattle.univ_parts.proofs.Cycles.{meets_each, meets_all, cycle_not_consistent}
 use Rattle.univ_parts.proofs.WalkLaws.{constraints_append}
 use Rattle.univ_graph.proofs.Soundness.{AreLists, sound_of}
@@ -103,7 +104,7 @@ whole_after old new t (Err e) h sound names taken same_names same_rows few = rec
 number_positive : (N : Numbering) (l : LevelName) → IsNumbering N → 1 ≤ level_number N (Named l)
 number_positive [] l h = omega arith
 number_positive (a ∷ N) l h = elim (true_or_false (same_level_name a.level l)) [
-  | inl t ↦ let e = number_here a N l (name_same a.level l t) in let o = h.0 in omega arith
+  | inl t ↦ let e = number_here a N l ((same_level_name_decides a.level l).0 t) in let o = h.0 in omega arith
   | inr f ↦ rw f (number_positive N l h.2)
 ]
 

@@ -5,7 +5,7 @@ use Rattle.cic_names.specs.declared.level.Level.{Level}
 use Rattle.cic_names.specs.declared.level.Level.TheVariants.{Set, Named}
 use Rattle.cic_names.specs.declared.constraint.Constraint.{Constraint}
 use Rattle.cic_names.specs.Orders.{insert_constraint}
-use Rattle.cic_rules.specs.Sameness.{same_level_name}
+use Rattle.cic_names.specs.Sameness.{same_level_name}
 use Rattle.cic_rules.specs.Numbering.{Numbering, Consistent, IsNumbering, MeetsAll, IsCycle}
 use Rattle.univ_parts.specs.declared.cycle.Tagged.{Tagged}
 use Rattle.univ_parts.specs.declared.cycle.Tag.TheVariants.{Levels}

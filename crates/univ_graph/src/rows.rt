@@ -14,7 +14,6 @@ fn level(alloc: Global, owner: &str) -> Result<Level, NameFault> {
         lib: Name::new(alloc, b"Lib")?,
         owner: Name::new(alloc, owner.as_bytes())?,
         part: Part::Declared,
-        number: 0,
     }))
 }
 

@@ -5,7 +5,7 @@ use Rattle.cic_names.specs.declared.level.Level.TheVariants.{Named}
 use Rattle.cic_rules.specs.Numbering.{level_number}
 use Rattle.univ_parts.specs.declared.numbers.LevelNumber.{LevelNumber}
 use Rattle.univ_parts.specs.Numbers.{numbering}
-use Rattle.univ_parts.proofs.Sameness.{number_here, number_later}
+use Rattle.univ_parts.proofs.LevelNumbers.{number_here, number_later}
 
 drop_at : (xs : List LevelNumber) (i : ℕ) (x : LevelNumber) → i < length xs → x ≡ get_or xs i x → drop i xs ≡ x ∷ drop (i + 1) xs
 drop_at xs i x lt at = let d = drop-cons xs i x lt in rw add-one (cc)

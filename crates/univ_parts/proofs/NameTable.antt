@@ -2,15 +2,15 @@
 -- found when a new name is put in. A graph finds the places of its levels by that table.
 use Rattle.std.proofs.Common.{◌≡◌, ◌∙◌, ◌⊎◌, inl, inr, ℕ, zero, suc, List, [], ◌∷◌, ◌++◌, length, take, Bool, true, false, ◌&&◌, nat_eq, refl, ap, sym, subst, if◌then◌else◌}
 use Rattle.std.specs.Prelude.{Option, Some, slice_get}
-use Rattle.std.specs.Cmp.Lexicographic.{pointwise, bytes_decides}
-use Rattle.std.specs.Cmp.{first_so, second_so}
+use Rattle.std.specs.Cmp.Lexicographic.{pointwise}
 use Rattle.cic_names.specs.declared.level.Part.{Part}
 use Rattle.cic_names.specs.declared.level.Part.TheVariants.{Declared, Visible, Proof}
 use Rattle.cic_names.specs.declared.level.LevelName.{LevelName}
 use Rattle.cic_names.specs.contracts.level.LevelNamePartialEq.TheImpl as derived
 use Rattle.cic_names.specs.contracts.level.PartPartialEq.TheImpl as derived_part
 use Rattle.univ_parts.specs.Places.{IsAbsent}
-use Rattle.univ_parts.proofs.Sameness.{number_same, number_self, and_true, name_parts}
+use Rattle.cic_names.specs.Sameness.{same_part, same_level_name}
+use Rattle.cic_names.proofs.Equality.{same_level_name_decides}
 
 abbrev pub name_eq : LevelName → LevelName → Bool
 name_eq = (derived.eq-value).it
@@ -18,41 +18,25 @@ name_eq = (derived.eq-value).it
 abbrev part_eq : Part → Part → Bool
 part_eq = (derived_part.eq-value).it
 
-part_decides : (a b : Part) → part_eq a b ≡ true → a ≡ b
-part_decides Declared Declared h = refl
-part_decides Visible Visible h = refl
-part_decides Proof Proof h = refl
-part_decides Declared Visible h = absurd (cc)
-part_decides Declared Proof h = absurd (cc)
-part_decides Visible Declared h = absurd (cc)
-part_decides Visible Proof h = absurd (cc)
-part_decides Proof Declared h = absurd (cc)
-part_decides Proof Visible h = absurd (cc)
+part_same : (a b : Part) → part_eq a b ≡ same_part a b
+part_same Declared Declared = refl
+part_same Declared (Visible j) = refl
+part_same Declared (Proof j) = refl
+part_same (Visible i) Declared = refl
+part_same (Visible i) (Visible j) = refl
+part_same (Visible i) (Proof j) = refl
+part_same (Proof i) Declared = refl
+part_same (Proof i) (Visible j) = refl
+part_same (Proof i) (Proof j) = refl
 
-part_itself : (a : Part) → part_eq a a ≡ true
-part_itself Declared = refl
-part_itself Visible = refl
-part_itself Proof = refl
-
-name_form : (a b : LevelName) → name_eq a b ≡ (pointwise nat_eq a.lib b.lib && (pointwise nat_eq a.owner b.owner && (part_eq a.part b.part && nat_eq a.number b.number)))
-name_form a b = refl
+name_same : (a b : LevelName) → name_eq a b ≡ same_level_name a b
+name_same a b = ap (λ part. pointwise nat_eq a.lib b.lib && (pointwise nat_eq a.owner b.owner && part)) (part_same a.part b.part)
 
 pub name_decides : (a b : LevelName) → name_eq a b ≡ true → a ≡ b
-name_decides a b h =
-    let f = sym (name_form a b) ∙ h in
-    let p = second_so (pointwise nat_eq a.lib b.lib) (pointwise nat_eq a.owner b.owner && (part_eq a.part b.part && nat_eq a.number b.number)) f in
-    let q = second_so (pointwise nat_eq a.owner b.owner) (part_eq a.part b.part && nat_eq a.number b.number) p in
-    name_parts a b
-    ((bytes_decides a.lib b.lib).0 (first_so (pointwise nat_eq a.lib b.lib) (pointwise nat_eq a.owner b.owner && (part_eq a.part b.part && nat_eq a.number b.number)) f))
-    ((bytes_decides a.owner b.owner).0 (first_so (pointwise nat_eq a.owner b.owner) (part_eq a.part b.part && nat_eq a.number b.number) p))
-    (part_decides a.part b.part (first_so (part_eq a.part b.part) (nat_eq a.number b.number) q))
-    (number_same a.number b.number (second_so (part_eq a.part b.part) (nat_eq a.number b.number) q))
+name_decides a b h = (same_level_name_decides a b).0 (sym (name_same a b) ∙ h)
 
 pub name_itself : (a : LevelName) → name_eq a a ≡ true
-name_itself a =
-    and_true (pointwise nat_eq a.lib a.lib) (pointwise nat_eq a.owner a.owner && (part_eq a.part a.part && nat_eq a.number a.number)) ((bytes_decides a.lib a.lib).1 refl)
-    (and_true (pointwise nat_eq a.owner a.owner) (part_eq a.part a.part && nat_eq a.number a.number) ((bytes_decides a.owner a.owner).1 refl)
-    (and_true (part_eq a.part a.part) (nat_eq a.number a.number) (part_itself a.part) (number_self a.number)))
+name_itself a = name_same a a ∙ (same_level_name_decides a a).1 refl
 
 -- An element of a list with one more is one of the list, or the new one.
 pub get_more : {X : Type 0} (xs : List X) (x y : X) (p : ℕ) → slice_get (xs ++ x ∷ []) p ≡ Some y → (slice_get xs p ≡ Some y) ⊎ ((p ≡ length xs) × (x ≡ y))

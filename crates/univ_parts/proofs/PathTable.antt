@@ -11,7 +11,7 @@ use Rattle.univ_parts.specs.declared.cycle.Tagged.{Tagged}
 use Rattle.univ_parts.specs.Numbers.{constraints}
 use Rattle.univ_parts.specs.Walks.{StartsAt}
 use Rattle.univ_parts.proofs.NameTable.{name_decides, name_itself, get_more, get_first}
-use Rattle.univ_parts.proofs.Sameness.{true_or_false}
+use Rattle.univ_parts.proofs.LevelNumbers.{true_or_false}
 
 abbrev pub level_eq : Level → Level → Bool
 level_eq = (derived.eq-value).it

@@ -8,14 +8,14 @@ use Rattle.std.proofs.lemmas.Map.Keys.{IsDistinct-head, IsDistinct-tail}
 use Rattle.indexmap.specs.IndexSet.{insert_key}
 use Rattle.univ_parts.specs.Places.{AreApart}
 use Rattle.univ_parts.proofs.AtPlaces.{same_some}
-use Rattle.univ_parts.proofs.Sameness.{number_self}
+use Rattle.cic_names.proofs.Equality.{nat_eq_decides}
 
 pub place_in : (ps : List ℕ) (p : ℕ) → Contains ps p → (i : ℕ) × (slice_get ps i ≡ Some p)
 place_in ps p has = (has.0, slice_get-get_or ps has.0 p has.1 ∙ ap Some has.2)
 
 not_among : (q : ℕ) (ps : List ℕ) → AllByRecursion (λ y. nat_eq q y ≡ false) ps → (j : ℕ) → slice_get ps j ≡ Some q → ⊥
 not_among q [] h j is = absurd (cc)
-not_among q (p ∷ ps) h zero is = let e = same_some p q is in let s = number_self q in absurd (cc (h.0))
+not_among q (p ∷ ps) h zero is = let e = same_some p q is in let s = (nat_eq_decides q q).1 refl in absurd (cc (h.0))
 not_among q (p ∷ ps) h (suc j) is = not_among q ps h.1 j is
 
 pub apart_of : (ps : List ℕ) → IsDistinct nat_eq ps → AreApart ps

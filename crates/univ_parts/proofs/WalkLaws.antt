@@ -3,7 +3,7 @@ use Rattle.std.proofs.Common.{◌≡◌, ℕ, zero, suc, ◌+◌, ◌<◌, ◌�
 use Rattle.std.specs.Prelude.{◌||◌}
 use Rattle.cic_names.specs.declared.level.Level.{Level}
 use Rattle.cic_names.specs.declared.constraint.Constraint.{Constraint}
-use Rattle.cic_rules.specs.Constraints.{level_key, below, compare_keys}
+use Rattle.cic_names.specs.Orders.{level_order}
 use Rattle.cic_rules.specs.Numbering.{Chain, LeftOfNone, DistinctLefts, NoneBelow, IsCycle}
 use Rattle.univ_parts.specs.declared.cycle.Tagged.{Tagged}
 use Rattle.univ_parts.specs.Numbers.{constraints}
@@ -11,7 +11,8 @@ use Rattle.std.proofs.Math.Seq.{take-suc}
 use Rattle.std.proofs.lemmas.List.{take-append-drop}
 use Rattle.std.proofs.lemmas.List.Elements.{Contains-append_left, Contains-append_right, Contains-append_cases}
 use Rattle.univ_parts.specs.Walks.{has_strict, IsLoopOf, IsPartOf, StartsAt}
-use Rattle.univ_parts.proofs.KeyOrder.{below_through, below_itself}
+use Rattle.std.specs.declared.cmp.Ordering.TheVariants.{Less, Equal}
+use Rattle.cic_names.proofs.OrderLaws.{level_order_total, level_order_decides}
 
 pub constraints_append : (xs ys : List Tagged) → constraints (xs ++ ys) ≡ constraints xs ++ constraints ys
 constraints_append [] ys = refl
@@ -49,10 +50,13 @@ pub below_right : (l : Level) (xs ys : List Constraint) → NoneBelow l (xs ++ y
 below_right l [] ys h = h
 below_right l (x ∷ xs) ys h = below_right l xs ys h.1
 
-pub none_below_lower : (l m : Level) (xs : List Constraint) → compare_keys (level_key m) (level_key l) ≡ below → NoneBelow l xs → NoneBelow m xs
+not_below_itself : (l : Level) → level_order l l ≡ Less → ⊥
+not_below_itself l h = let e : level_order l l ≡ Equal = (level_order_decides l l).1 refl in absurd (cc)
+
+pub none_below_lower : (l m : Level) (xs : List Constraint) → level_order m l ≡ Less → NoneBelow l xs → NoneBelow m xs
 none_below_lower l m [] b h = tt
 none_below_lower l m (x ∷ xs) b h =
-    (λ k. h.0 (below_through (level_key x.left) (level_key m) (level_key l) k b), none_below_lower l m xs b h.1)
+    (λ k. h.0 (level_order_total.trans x.left m l k b), none_below_lower l m xs b h.1)
 
 pub distinct_left : (xs ys : List Constraint) → DistinctLefts (xs ++ ys) → DistinctLefts xs
 distinct_left [] ys h = tt
@@ -131,13 +135,13 @@ take_here xs i x lt at =
 
 -- One more step.
 below_more_steps : (l : Level) (xs : List Tagged) (i : ℕ) (x : Tagged) → i < length xs → x ≡ get_or xs i x →
-    NoneBelow l (constraints (take i xs)) → (compare_keys (level_key x.constraint.left) (level_key l) ≡ below → ⊥) → NoneBelow l (constraints (take (i + 1) xs))
+    NoneBelow l (constraints (take i xs)) → (level_order x.constraint.left l ≡ Less → ⊥) → NoneBelow l (constraints (take (i + 1) xs))
 below_more_steps l xs i x lt at h n =
     subst (λ (z : List Constraint). NoneBelow l z) (sym (take_here xs i x lt at)) (below_append l (constraints (take i xs)) (x.constraint ∷ []) h (n, tt))
 
 -- The place is a new one, or the old one.
 pub least_new : (xs : List Tagged) (i p : ℕ) (x y : Tagged) → i < length xs → x ≡ get_or xs i x → p < length xs → y ≡ get_or xs p y →
-    compare_keys (level_key x.constraint.left) (level_key y.constraint.left) ≡ below →
+    level_order x.constraint.left y.constraint.left ≡ Less →
     ((t : Tagged) → NoneBelow (get_or xs p t).constraint.left (constraints (take i xs))) →
     (t : Tagged) → NoneBelow (get_or xs i t).constraint.left (constraints (take (i + 1) xs))
 least_new xs i p x y lt at plt pat b h t =
@@ -145,11 +149,11 @@ least_new xs i p x y lt at plt pat b h t =
     subst (λ (z : Tagged). NoneBelow z.constraint.left (constraints (take i xs))) (sym pat) (h y) in
     let new : NoneBelow x.constraint.left (constraints (take (i + 1) xs)) =
     below_more_steps x.constraint.left xs i x lt at
-    (none_below_lower y.constraint.left x.constraint.left (constraints (take i xs)) b old) (below_itself (level_key x.constraint.left)) in
+    (none_below_lower y.constraint.left x.constraint.left (constraints (take i xs)) b old) (not_below_itself x.constraint.left) in
     subst (λ (z : Tagged). NoneBelow z.constraint.left (constraints (take (i + 1) xs))) (at ∙ get_any xs i x t lt) new
 
 pub least_old : (xs : List Tagged) (i p : ℕ) (x y : Tagged) → i < length xs → x ≡ get_or xs i x → p < length xs → y ≡ get_or xs p y →
-    (compare_keys (level_key x.constraint.left) (level_key y.constraint.left) ≡ below → ⊥) →
+    (level_order x.constraint.left y.constraint.left ≡ Less → ⊥) →
     ((t : Tagged) → NoneBelow (get_or xs p t).constraint.left (constraints (take i xs))) →
     (t : Tagged) → NoneBelow (get_or xs p t).constraint.left (constraints (take (i + 1) xs))
 least_old xs i p x y lt at plt pat b h t =

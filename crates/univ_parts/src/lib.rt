@@ -3,7 +3,6 @@
 
 mod bands;
 mod cycle;
-mod keys;
 mod laws;
 mod lists;
 mod names;
@@ -15,7 +14,6 @@ mod walk;
 
 pub use bands::{BAND_LIMIT, Band, Bands, Gap, band_of};
 pub use cycle::{Cycle, Tag, Tagged};
-pub use keys::is_below;
 pub use laws::{consistency_passes_to_parts, no_numbering_meets_a_cycle};
 pub use lists::RowLists;
 pub use names::Names;

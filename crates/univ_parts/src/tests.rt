@@ -1,7 +1,6 @@
 use crate::cycle::{Cycle, Tag, Tagged};
-use crate::keys::is_below;
 use crate::numbers::{LevelNumber, level_number, meets};
-use cic_names::{Constraint, Level, LevelName, Name, NameFault, Part};
+use cic_names::{Constraint, Level, LevelName, Name, NameFault, Part, level_order};
 use std::alloc::Global;
 use std::test::Fail;
 
@@ -10,7 +9,6 @@ fn level_name(alloc: Global, owner: &str) -> Result<LevelName, NameFault> {
         lib: Name::new(alloc, b"Lib")?,
         owner: Name::new(alloc, owner.as_bytes())?,
         part: Part::Declared,
-        number: 0,
     })
 }
 
@@ -61,8 +59,8 @@ fn numbers_of_levels(rt: HostRuntime) -> Result<(), Fail> {
     assert_eq!(rt; level_number(&numbers, &u), 7);
     assert_eq!(rt; level_number(&numbers, &v), 1);
     assert_eq!(rt; level_number(&numbers, &Level::Set), 0);
-    assert!(rt; is_below(&Level::Set, &u));
-    assert!(rt; is_below(&u, &v));
+    assert!(rt; level_order(&Level::Set, &u).is_lt());
+    assert!(rt; level_order(&u, &v).is_lt());
     let asked = Constraint {
         left: u,
         strict: true,

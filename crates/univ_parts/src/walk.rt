@@ -7,9 +7,8 @@ ghost use Rattle.univ_parts.specs.Numbers.{constraints};
 ghost use Rattle.univ_parts.specs.Walks.{has_strict, IsLoopOf, IsClosedAt, IsPartOf, StartsAt};
 
 use crate::cycle::{Cycle, Tagged};
-use crate::keys::is_below;
 use crate::path::Path;
-use cic_names::{Level, NoMemory};
+use cic_names::{Level, NoMemory, level_order};
 use std::alloc::Global;
 
 fn has_strict(steps: &[Tagged]) -> bool
@@ -52,7 +51,7 @@ fn least_place(steps: &[Tagged]) -> usize
 {
     let mut place = 0;
     for (i, step) in steps.iter().enumerate() {
-        if is_below(&step.constraint.left, &steps[place].constraint.left) {
+        if level_order(&step.constraint.left, &steps[place].constraint.left).is_lt() {
             place = i;
         }
     }

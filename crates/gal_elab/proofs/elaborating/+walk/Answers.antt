@@ -4,14 +4,14 @@ use Rattle.std.specs.Prelude.{Some}
 use Rattle.cic_env.specs.Environments.{items}
 use Rattle.gal_parser.specs.Views.{raw_term}
 use Rattle.gal_elab.specs.Resolving.{put, resolve}
-use Rattle.gal_elab.specs.Answers.{Tells, levels_in}
+use Rattle.gal_elab.specs.Answers.{Resolves, levels_in}
 use Rattle.gal_elab.proofs.Levelled.{put_back}
 use Rattle.gal_elab.proofs.Resolutions.{tells_left, tells_product, ok_product}
 use Rattle.gal_elab.proofs.elaborating.+walk.Goals as goal
 
 pub behind-returns-clause-told : goal.behind-returns-clause-told
 behind-returns-clause-told t c =
-    subst (λ depth. Tells c.elab.result (resolve c.args.library.now.name.now (items c.args.library.now.env.now) (levels_in c.args.levels.now) depth (raw_term c.args.raw.now)))
+    subst (λ depth. Resolves c.elab.result (resolve c.args.library.now.name.now (items c.args.library.now.env.now) (levels_in c.args.levels.now) depth (raw_term c.args.raw.now)))
     c.in_ok-deeper.ensures c.elab.ensures.told
 
 pub behind-returns-clause-same : goal.behind-returns-clause-same

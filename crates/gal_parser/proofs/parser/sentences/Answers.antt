@@ -1,6 +1,4 @@
 -- Each turn of the loop reads one sentence more, and leaves less.
-use Rattle.std.proofs.Common.{◌≡◌, true, [], ◌∷◌, ◌++◌, sym, ◌∙◌, ap}
-use Rattle.std.specs.Result.{is_ok}
 use Rattle.std.proofs.lemmas.List.{map-append}
 use Rattle.gal_parser.specs.Grammar.{no_sentence}
 use Rattle.gal_parser.proofs.GrammarLaws.{sentences_then, sentence_shortens}
@@ -14,6 +12,4 @@ loop-items-smaller c = sentence_shortens (rw c.in-Some.is at c.in_ok-command.ens
 
 pub loop-items-preserved : goal.loop-items-preserved
 loop-items-preserved c =
-    let pushed : is_ok c.push.result ≡ true = sym c.map_err.ensures.variant ∙ ap is_ok c.in_ok-map_err.was in
-    let items : c.push.new.self.items ≡ c.loop-items.items.items ++ c.in-Some.command ∷ [] = rw pushed at c.push.ensures.items in
-    rw (items, map-append) (sentences_then c.loop-items.invariant (rw c.in-Some.is at c.in_ok-command.ensures))
+    rw (c.in_ok-push.ensures.items, map-append) (sentences_then c.loop-items.invariant (rw c.in-Some.is at c.in_ok-command.ensures))

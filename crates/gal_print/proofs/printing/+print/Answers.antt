@@ -33,9 +33,9 @@ print_term-returns-in_ok-push_part-in-Prod t c =
     let a : Term = c.deref-then-branch.result.now in
     let b : Term = c.deref-then-branch-2.result.now in
     on_ok_more c.print_term-then-branch.result c.print_term-then-branch.ensures
-    (product_appended c.args.binders c.in-Some.inner (tree c.args.t.now) (tree a) (tree b) _ _ _ _ _
+    (product_appended c.args.binders c.in_ok-inner-in-Prod.inner (tree c.args.t.now) (tree a) (tree b) _ _ _ _ _
     (ap tree c.in-Prod.is ∙ ap₂ prod (ap tree (sym c.deref-then-branch.ensures)) (ap tree (sym c.deref-then-branch-2.ensures)))
-    c.in-Some.ensures.1
+    c.in_ok-inner-in-Prod.ensures
     (subst (λ (z : Term). Uses 0 (tree z)) (c.deref.ensures ∙ sym c.deref-then-branch-2.ensures) (where_true _ c.if-branch.true c.in_ok-uses-in-Prod.ensures))
     c.in_ok-push_binder-in-Prod.ensures c.in_ok-print_term-in-Prod.ensures c.in_ok-push_part-in-Prod.ensures)
 
@@ -44,8 +44,8 @@ print_term-returns-in_ok-push_part-in-Prod-2 t c =
     let a : Term = c.deref-else-branch.result.now in
     let b : Term = c.deref-else-branch-2.result.now in
     on_ok_more c.print_term-else-branch.result c.print_term-else-branch.ensures
-    (arrow_appended c.args.binders c.in-Some.inner (tree c.args.t.now) (tree a) (tree b) _ _ _ _
+    (arrow_appended c.args.binders c.in_ok-inner-in-Prod.inner (tree c.args.t.now) (tree a) (tree b) _ _ _ _
     (ap tree c.in-Prod.is ∙ ap₂ prod (ap tree (sym c.deref-else-branch.ensures)) (ap tree (sym c.deref-else-branch-2.ensures)))
-    c.in-Some.ensures.1
+    c.in_ok-inner-in-Prod.ensures
     (subst (λ (z : Term). ¬ Uses 0 (tree z)) (c.deref.ensures ∙ sym c.deref-else-branch-2.ensures) (where_false _ c.if-branch.false c.in_ok-uses-in-Prod.ensures))
     c.in_ok-print_left-in-Prod.ensures c.in_ok-push_part-in-Prod-2.ensures)

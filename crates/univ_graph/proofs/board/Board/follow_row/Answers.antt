@@ -4,7 +4,7 @@ use Rattle.std.specs.Prelude.{◌||◌, nat_eq}
 use Rattle.std.proofs.lemmas.Option.{slice_get_within}
 use Rattle.univ_graph.specs.declared.spread.Step.{Step}
 use Rattle.univ_parts.proofs.AtPlaces.{got, same_some}
-use Rattle.univ_parts.proofs.Sameness.{number_self}
+use Rattle.cic_names.proofs.Equality.{nat_eq_decides}
 use Rattle.univ_graph.proofs.Spreading.{row_step, either_true, either_false, on_ok_map, closed_by_step, closed_by_none}
 use Rattle.univ_graph.proofs.board.Board.follow_row.Goals as goal
 use Rattle.univ_graph.proofs.board.Board.follow_row.Goals.{then-step, else-step, else-k-len-via-then-k-len+else-index-step, else-k-len-via-else-k-len}
@@ -71,7 +71,7 @@ returns-else-k-len-clause-closed c =
           let other = got rows c.args.k w.index.result.now lt w.index.ensures in
           let same : w.index.result.now ≡ row = same_some w.index.result.now row (sym other ∙ at_k) in
           let e : w.index.result.now.left ≡ step.place = ap (λ z. z.left) same ∙ leaves in
-          let t : nat_eq w.index.result.now.left step.place ≡ true = subst (λ n. nat_eq w.index.result.now.left n ≡ true) e (number_self w.index.result.now.left) in
+          let t : nat_eq w.index.result.now.left step.place ≡ true = subst (λ n. nat_eq w.index.result.now.left n ≡ true) e ((nat_eq_decides w.index.result.now.left w.index.result.now.left).1 refl) in
           let f = w.if-index-step.false in absurd (cc)
       | else-k-len-via-else-k-len w ↦ let f = w.if-k-len.false in let l = c.len.ensures in absurd (search rules)
     ])
