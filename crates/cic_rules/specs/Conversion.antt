@@ -1,12 +1,13 @@
 -- Conversion and subtyping at a numbering (Coq Reference Manual, "Conversion rules" and "Subtyping rules").
 use Rattle.std.specs.Prelude.{ℕ, ◌≤◌, ◌≡◌, ◌≢◌, Some, ◌∷◌}
-use Rattle.cic_terms.specs.Tree.{TreeSort, prop, set, Former, LetF, Binders, over, Tree, node, Children, no_child, child, sort, prod}
+use Rattle.cic_terms.specs.Tree.{TreeSort, prop, set, Former, LetF, Binders, over, Tree, rel, node, Children, no_child, child, sort, prod, lam, app}
+use Rattle.cic_terms.specs.Lift.{lift_tree}
 use Rattle.cic_rules.specs.Numbering.{Numbering, sort_number}
 use Rattle.cic_rules.specs.Environment.{Environment, Context, unknown, under_unknown}
 use Rattle.cic_rules.specs.Step.{Step}
 
 -- Two terms are convertible where a finite derivation of these rules shows it. Nothing says that the
--- relation is transitive. Eta for functions, once it is there, is one more rule.
+-- relation is transitive.
 mutual
   pub data Convertible (E : Environment) (N : Numbering) : Context → Tree → Tree → Type 0 where
     -- They are identical.
@@ -25,7 +26,7 @@ mutual
     -- They have the same former, with equal ids, numbers and counts, which is no let, and convertible
     -- parts. Of terms without parts, as sorts, variables and ids, this says no more than identity.
     -- The parts of a Fix are the domains, codomains and bodies of its functions.
-    same_former : {G : Context} {f : Former} {ks ks' : Children} →
+    congruence : {G : Context} {f : Former} {ks ks' : Children} →
         f ≢ LetF →
         ConvertibleParts E N G ks ks' →
         Convertible E N G (node f ks) (node f ks')
@@ -34,6 +35,16 @@ mutual
         sort_number N s ≡ Some i →
         sort_number N s' ≡ Some i →
         Convertible E N G (sort s) (sort s')
+    -- Eta for functions: one of them is fun x : A => t, and under x : A the term t is convertible with the
+    -- other applied to x.
+    eta_left : {G : Context} {a t b c : Tree} →
+        c ≡ app (lift_tree 0 1 b) (rel 0) →
+        Convertible E N (unknown ∷ G) t c →
+        Convertible E N G (lam a t) b
+    eta_right : {G : Context} {a t b c : Tree} →
+        c ≡ app (lift_tree 0 1 b) (rel 0) →
+        Convertible E N (unknown ∷ G) c t →
+        Convertible E N G b (lam a t)
 
   -- Parts are convertible pairwise, under equally many binders of which nothing is known.
   pub data ConvertibleParts (E : Environment) (N : Numbering) : Context → Children → Children → Type 0 where

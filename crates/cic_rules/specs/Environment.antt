@@ -2,7 +2,7 @@
 use Rattle.std.specs.Prelude.{ℕ, zero, suc, ◌+◌, if◌then◌else◌, Option, Some, None, List, [], ◌∷◌, ◌++◌, map}
 use Rattle.cic_terms.specs.Tree.{Tree}
 use Rattle.cic_names.specs.declared.name.GlobalId.{GlobalId}
-use Rattle.cic_rules.specs.Sameness.{same_id}
+use Rattle.cic_names.specs.Sameness.{same_id}
 
 -- A constructor of an inductive type with its type, which begins with the parameters' products
 -- (Coq Reference Manual, "Inductive types").
@@ -137,22 +137,22 @@ transparent_body_in _ = None
 abbrev pub transparent_body : Environment → GlobalId → Option Tree
 transparent_body E id = transparent_body_in (meaning E id)
 
--- The arity of a type of a block, whole or bare, with its number of parameters.
-pub record Arity : Type 0 where
-  pub type : Tree
+-- A type of a block, whole or bare: its arity and its number of parameters.
+pub record InductiveType : Type 0 where
+  pub arity : Tree
   pub parameters : ℕ
 
-abbrev pub arity_in_block : Block → Option TypeDeclaration → Option Arity
-arity_in_block block None = None
-arity_in_block block (Some t) = Some (record { type = t.arity; parameters = block.parameters })
+abbrev pub inductive_type_in_block : Block → Option TypeDeclaration → Option InductiveType
+inductive_type_in_block block None = None
+inductive_type_in_block block (Some t) = Some (record { arity = t.arity; parameters = block.parameters })
 
-abbrev pub arity_in : Option Meaning → Option Arity
-arity_in (Some (whole_type block index)) = arity_in_block block (element block.types index)
-arity_in (Some (bare_type block index)) = arity_in_block block (element block.types index)
-arity_in _ = None
+abbrev pub inductive_type_in : Option Meaning → Option InductiveType
+inductive_type_in (Some (whole_type block index)) = inductive_type_in_block block (element block.types index)
+inductive_type_in (Some (bare_type block index)) = inductive_type_in_block block (element block.types index)
+inductive_type_in _ = None
 
-abbrev pub arity_of : Environment → GlobalId → Option Arity
-arity_of E id = arity_in (meaning E id)
+abbrev pub inductive_type_of : Environment → GlobalId → Option InductiveType
+inductive_type_of E id = inductive_type_in (meaning E id)
 
 -- The whole block of a type, with the type's place in it.
 pub record TypeInBlock : Type 0 where

@@ -1,12 +1,14 @@
 -- Numbers for universe levels: when constraints between levels hold (Coq Reference Manual, "Universes").
 use Rattle.std.specs.Prelude.{ℕ, ◌+◌, ◌<◌, ◌≤◌, ◌≡◌, ◌≢◌, max, Bool, true, false, if◌then◌else◌, Option, Some, None, List, [], ◌∷◌, Contains}
+use Rattle.std.specs.declared.cmp.Ordering.TheVariants.{Less}
 use Rattle.cic_terms.specs.Tree.{TreeSort, prop, set, typ, own}
 use Rattle.cic_names.specs.declared.level.LevelName.{LevelName}
 use Rattle.cic_names.specs.declared.level.Level.{Level}
 use Rattle.cic_names.specs.declared.level.Level.TheVariants.{Set, Named}
 use Rattle.cic_names.specs.declared.level.Atom.{Atom}
-use Rattle.cic_rules.specs.Sameness.{same_level_name}
-use Rattle.cic_rules.specs.Constraints.{Constraint, level_key, below, compare_keys}
+use Rattle.cic_names.specs.Sameness.{same_level_name}
+use Rattle.cic_names.specs.declared.constraint.Constraint.{Constraint}
+use Rattle.cic_names.specs.Orders.{level_order}
 
 -- A named level with its number.
 pub record Numbered : Type 0 where
@@ -74,7 +76,7 @@ pub record Consistent (K : List Constraint) : Type 0 where
 
 -- A cycle of constraints (this project's own): each begins at the level where the one before ends, the
 -- first where the last ends; one is strict; no level is a left end twice; and it begins at its least
--- level by their keys. No numbering meets a cycle.
+-- level in the order of levels. No numbering meets a cycle.
 abbrev pub Chain : (from : Level) → List Constraint → (to : Level) → Type 0
 Chain from [] to = from ≡ to
 Chain from (c ∷ cs) to = (c.left ≡ from) × Chain c.right cs to
@@ -89,7 +91,7 @@ DistinctLefts (c ∷ cs) = LeftOfNone c.left cs × DistinctLefts cs
 
 abbrev pub NoneBelow : Level → List Constraint → Type 0
 NoneBelow l [] = Unit {0}
-NoneBelow l (c ∷ cs) = (compare_keys (level_key c.left) (level_key l) ≢ below) × NoneBelow l cs
+NoneBelow l (c ∷ cs) = (level_order c.left l ≢ Less) × NoneBelow l cs
 
 pub record IsCycle (cycle : List Constraint) : Type 0 where
   pub start : Level

@@ -1,7 +1,7 @@
 -- One step of reduction, at any position of a term (Coq Reference Manual, "Conversion rules": beta,
 -- delta, iota and zeta reduction).
-use Rattle.std.specs.Prelude.{ℕ, ◌+◌, ◌≡◌, Some, List, [], ◌∷◌, ◌++◌, length}
-use Rattle.cic_terms.specs.Tree.{Former, Binders, over, Tree, rel, node, Children, child, lam, let_in, app, const, ctor, case}
+use Rattle.std.specs.Prelude.{ℕ, ◌+◌, ◌≡◌, ◌≢◌, Some, List, [], ◌∷◌, ◌++◌, length}
+use Rattle.cic_terms.specs.Tree.{Former, LetF, Binders, over, Tree, rel, node, Children, child, lam, let_in, app, const, ctor, case}
 use Rattle.cic_terms.specs.Lift.{lift_tree, subst_tree}
 use Rattle.cic_names.specs.declared.name.GlobalId.{GlobalId}
 use Rattle.cic_rules.specs.Environment.{Environment, Context, Constructor, transparent_body, constructor_of, body_at, element, defined, under_unknown}
@@ -44,14 +44,21 @@ mutual
         (which : ℕ) (fs : List Function) (before : List Tree) (c : GlobalId) (arguments : List Tree) →
         s ≡ apply (fixpoint which fs) (before ++ apply (ctor c) arguments ∷ []) →
         element fs which ≡ Some f →
-        length before ≡ f.k →
+        length before ≡ f.recursive_place →
         t ≡ apply (unfolded fs f) (before ++ apply (ctor c) arguments ∷ []) →
         Step E G s t
-    -- A step in one of the parts of a term, under binders of which nothing is known.
+    -- A step in one of the parts of a term that is no let, under binders of which nothing is known.
     inside : {G : Context} {f : Former} {ks ks' : Children} →
+        f ≢ LetF →
         StepInside E G ks ks' →
         Step E G (node f ks) (node f ks')
-    -- Under the rest of a let its body is known.
+    -- A step in the body, the type or the rest of a let. In the rest its body is known.
+    in_body : {G : Context} {t t' a b : Tree} →
+        Step E G t t' →
+        Step E G (let_in t a b) (let_in t' a b)
+    in_type : {G : Context} {t a a' b : Tree} →
+        Step E G a a' →
+        Step E G (let_in t a b) (let_in t a' b)
     in_rest : {G : Context} {t a b b' : Tree} →
         Step E (defined t a ∷ G) b b' →
         Step E G (let_in t a b) (let_in t a b')

@@ -1,9 +1,9 @@
 -- Applications, products and abstractions in a row, and terms put in for several binders at once.
-use Rattle.std.specs.Prelude.{ℕ, zero, suc, ◌+◌, Bool, false, if◌then◌else◌, Option, Some, None, List, [], ◌∷◌, ◌++◌, length, map, take, drop}
-use Rattle.cic_terms.specs.Tree.{Shape, many, over, Tree, rel, Children, no_child, child, prod, lam, app, ind, fix, join}
+use Rattle.std.specs.Prelude.{ℕ, zero, suc, ◌+◌, ◌≡◌, Bool, Option, Some, None, List, [], ◌∷◌, length, map}
+use Rattle.cic_terms.specs.Tree.{Shape, many, over, Tree, rel, Children, no_child, child, prod, lam, app, fix, join}
 use Rattle.cic_terms.specs.Lift.{lift_tree, subst_tree}
 use Rattle.cic_rules.specs.Environment.{Context, assumed}
-use Rattle.cic_rules.specs.Sameness.{same_id, same_children}
+use Rattle.cic_names.specs.Sameness.{same_id}
 use Rattle.cic_names.specs.declared.name.GlobalId.{GlobalId}
 use Rattle.std.specs.List.{list_any}
 
@@ -12,14 +12,10 @@ abbrev pub apply : Tree → List Tree → Tree
 apply f [] = f
 apply f (u ∷ us) = apply (app f u) us
 
--- The head of an application as written, and its arguments.
+-- The head of an application as written.
 abbrev pub head_of : Tree → Tree
 head_of (app f u) = head_of f
 head_of t = t
-
-abbrev pub arguments_of : Tree → List Tree
-arguments_of (app f u) = arguments_of f ++ u ∷ []
-arguments_of t = []
 
 -- Products, and abstractions, over domains, each of which stands under the earlier ones.
 abbrev pub products : List Tree → Tree → Tree
@@ -64,15 +60,14 @@ abbrev pub lift_domains : (place n : ℕ) → List Tree → List Tree
 lift_domains place n [] = []
 lift_domains place n (a ∷ as_) = lift_tree place n a ∷ lift_domains (place + 1) n as_
 
--- What is left of a type as written when arguments are put in for its first products. Where it is no
--- product it stays.
-abbrev pub codomain_at : Tree → Tree → Tree
-codomain_at u (prod a b) = subst_tree 0 u b
-codomain_at u t = t
-
-abbrev pub instantiate : List Tree → Tree → Tree
-instantiate [] t = t
-instantiate (u ∷ us) t = instantiate us (codomain_at u t)
+-- Arguments put in for the first products of a type as written, one after the other, and what is left.
+pub data Instantiated : Tree → List Tree → Tree → Type 0 where
+  no_argument : {t : Tree} →
+      Instantiated t [] t
+  one_argument : {a b u t t' : Tree} {us : List Tree} →
+      t ≡ subst_tree 0 u b →
+      Instantiated t us t' →
+      Instantiated (prod a b) (u ∷ us) t'
 
 -- A branch of a match: how many arguments it binds, and its term under them.
 pub record BranchParts : Type 0 where
@@ -89,7 +84,7 @@ branch_at (child b t ks) (suc i) = branch_at ks i
 -- earlier ones, its codomain under the domains, and its body under all functions of the Fix, the first
 -- outermost, and then the domains.
 pub record Function : Type 0 where
-  pub k : ℕ
+  pub recursive_place : ℕ
   pub domains : List Tree
   pub codomain : Tree
   pub body : Tree
@@ -107,37 +102,11 @@ function_parts all (f ∷ fs) =
     (child (many (all + length f.domains)) f.body (function_parts all fs)))
 
 abbrev pub function_shapes : List Function → List Shape
-function_shapes = map (λ f. record { k = f.k; domains = length f.domains })
+function_shapes = map (λ f. record { k = f.recursive_place; domains = length f.domains })
 
 -- Function `which` of a Fix with these functions.
 abbrev pub fixpoint : (which : ℕ) → List Function → Tree
 fixpoint which fs = fix which (function_shapes fs) (function_parts (length fs) fs)
-
--- The functions that the parts of a Fix are made of, where they are made so.
-abbrev pub trees_of : Children → List Tree
-trees_of no_child = []
-trees_of (child b t ks) = t ∷ trees_of ks
-
-abbrev pub tree_at : List Tree → ℕ → Tree
-tree_at [] i = rel 0
-tree_at (t ∷ ts) zero = t
-tree_at (t ∷ ts) (suc i) = tree_at ts i
-
-abbrev pub split_functions : List Shape → List Tree → List Function
-split_functions [] ts = []
-split_functions (s ∷ ss) ts =
-    record {
-      k = s.k;
-      domains = take s.domains ts;
-      codomain = tree_at ts s.domains;
-      body = tree_at ts (s.domains + 1);
-    } ∷ split_functions ss (drop (s.domains + 2) ts)
-
-abbrev pub functions_if_parts : Children → List Function → Option (List Function)
-functions_if_parts parts fs = if same_children parts (function_parts (length fs) fs) then Some fs else None
-
-abbrev pub functions_of : List Shape → Children → Option (List Function)
-functions_of shapes parts = functions_if_parts parts (split_functions shapes (trees_of parts))
 
 -- The type of a function, and of each of several.
 abbrev pub function_type : Function → Tree
@@ -165,8 +134,3 @@ unfolded fs f = substitute_all (each_fixpoint (length fs) 0 fs) (full_body (leng
 -- Whether an id is among others.
 abbrev pub is_among : GlobalId → List GlobalId → Bool
 is_among id = list_any (same_id id)
-
--- Whether a term is one of these types.
-abbrev pub is_type_among : List GlobalId → Tree → Bool
-is_type_among ids (ind id) = is_among id ids
-is_type_among ids t = false

@@ -5,9 +5,10 @@ use Rattle.cic_terms.specs.Tree.{TreeSort, prop, set, Shape, Binders, over, Tree
 use Rattle.cic_terms.specs.Lift.{lift_tree, subst_tree}
 use Rattle.cic_names.specs.declared.name.GlobalId.{GlobalId}
 use Rattle.cic_rules.specs.Numbering.{Numbering, sort_number}
-use Rattle.cic_rules.specs.Environment.{Environment, Context, Arity, TypeInBlock, TypeDeclaration, ConstructorDeclaration, Constructor, constant_type, arity_of, whole_block, constructor_of, type_at, element, assumed, defined}
-use Rattle.cic_rules.specs.Telescopes.{apply, products, extend, substitute_all, variables, lift_all, Function, function_parts, function_shapes, function_type, function_types, full_bodies}
+use Rattle.cic_rules.specs.Environment.{Environment, Context, InductiveType, TypeInBlock, TypeDeclaration, ConstructorDeclaration, Constructor, constant_type, inductive_type_of, whole_block, constructor_of, type_at, element, assumed, defined}
+use Rattle.cic_rules.specs.Telescopes.{apply, products, extend, substitute_all, variables, lift_all, Instantiated, Function, function_parts, function_shapes, function_type, function_types, full_bodies}
 use Rattle.cic_rules.specs.Conversion.{AtMost}
+use Rattle.cic_rules.specs.Inductive.{ConstructorParts}
 use Rattle.cic_rules.specs.Guard.{Guarded}
 
 -- The type of a sort: a universe of number 1 for Prop and Set, and the next one for a universe.
@@ -37,15 +38,6 @@ pub data SortOfProduct (N : Numbering) : (domain codomain product : TreeSort) �
       sort_number N s'' ≡ Some i →
       SortOfProduct N s s' s''
 
--- Arguments put in for the first products of a type as written, one after the other, and what is left.
-pub data Instantiated : Tree → List Tree → Tree → Type 0 where
-  no_argument : {t : Tree} →
-      Instantiated t [] t
-  one_argument : {a b u t t' : Tree} {us : List Tree} →
-      t ≡ subst_tree 0 u b →
-      Instantiated t us t' →
-      Instantiated (prod a b) (u ∷ us) t'
-
 -- The context under the functions of a Fix, of which `before` stand there already. No type knows a function.
 abbrev pub function_entries : (before : ℕ) → Context → (types : List Tree) → Context
 function_entries before G [] = G
@@ -67,9 +59,9 @@ mutual
         constant_type E c ≡ Some a →
         t ≡ lift_tree 0 (length G) a →
         Typed E N G (const c) t
-    inductive_type : {G : Context} {c : GlobalId} {a : Arity} {t : Tree} →
-        arity_of E c ≡ Some a →
-        t ≡ lift_tree 0 (length G) a.type →
+    inductive_type : {G : Context} {c : GlobalId} {a : InductiveType} {t : Tree} →
+        inductive_type_of E c ≡ Some a →
+        t ≡ lift_tree 0 (length G) a.arity →
         Typed E N G (ind c) t
     constructor : {G : Context} {c : GlobalId} {K : Constructor} {t : Tree} →
         constructor_of E c ≡ Some K →
@@ -133,11 +125,11 @@ mutual
     -- This project's own: an argument of an inductive type that has a sort has the type of its product
     -- in the arity, with the earlier arguments put in.
     instance : {G : Context} {u a : Tree} {s : TreeSort} →
-        (id : GlobalId) (A : Arity) (before after : List Tree) (w b z : Tree) →
-        arity_of E id ≡ Some A →
+        (id : GlobalId) (A : InductiveType) (before after : List Tree) (w b z : Tree) →
+        inductive_type_of E id ≡ Some A →
         w ≡ apply (ind id) (before ++ u ∷ after) →
         Typed E N G w (sort s) →
-        Instantiated (lift_tree 0 (length G) A.type) before (prod a b) →
+        Instantiated (lift_tree 0 (length G) A.arity) before (prod a b) →
         Instantiated (subst_tree 0 u b) after z →
         Typed E N G u a
 
@@ -172,11 +164,9 @@ mutual
         T.constructors ≡ [] →
         Eliminated E N r T s
     of_propositions : {r : ℕ} {T : TypeDeclaration} {s : TreeSort} →
-        (c : ConstructorDeclaration) (parameters arguments us : List Tree) →
+        (c : ConstructorDeclaration) (parts : ConstructorParts r T.id c.type) →
         T.constructors ≡ c ∷ [] →
-        c.type ≡ products parameters (products arguments (apply (ind T.id) us)) →
-        length parameters ≡ r →
-        Propositions E N (extend [] parameters) arguments →
+        Propositions E N (extend [] parts.parameters) parts.arguments →
         Eliminated E N r T s
 
   pub data Propositions (E : Environment) (N : Numbering) : Context → List Tree → Type 0 where
@@ -210,14 +200,14 @@ pub record HasSort (E : Environment) (N : Numbering) (G : Context) (t : Tree) : 
   pub typed : Typed E N G t (sort its_sort)
 
 -- A context is well formed: each type has a sort under the earlier entries, and each body its type.
-abbrev pub WellFormed : Environment → Numbering → Context → Type 0
-WellFormed E N [] = Unit {0}
-WellFormed E N (e ∷ G) =
+abbrev pub WellFormedContext : Environment → Numbering → Context → Type 0
+WellFormedContext E N [] = Unit {0}
+WellFormedContext E N (e ∷ G) =
     ((a : Tree) → e.type ≡ Some a → HasSort E N G a)
     × ((a t : Tree) → e.type ≡ Some a → e.body ≡ Some t → Typed E N G t a)
-    × WellFormed E N G
+    × WellFormedContext E N G
 
 -- E; G gives t : T, in a well formed context.
 pub record Derivation (E : Environment) (N : Numbering) (G : Context) (t T : Tree) : Type 0 where
-  pub well_formed : WellFormed E N G
+  pub well_formed : WellFormedContext E N G
   pub typed : Typed E N G t T
