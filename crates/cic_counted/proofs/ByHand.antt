@@ -1,17 +1,18 @@
 -- A derivation by hand: the function on nat that is O everywhere, with a match, a fixpoint, conversion by the
 -- definition of its codomain, and the type of O got from an equation about it. It shows that the rules derive what
 -- they should, so that they are not void.
-use Rattle.std.proofs.Common.{◌≢◌, ℕ, [], ◌∷◌, refl, arith, codes}
+use Rattle.std.proofs.Common.{◌≢◌, ℕ, [], ◌∷◌, refl, arith, codes, Some}
 use Rattle.cic_terms.specs.Tree.{prop, set, own, rel, sort, prod, app, ind}
 use Rattle.cic_rules.specs.Environment.{Context, assumed}
-use Rattle.cic_rules.specs.Telescopes.{fixpoint}
+use Rattle.cic_rules.specs.Telescopes.{fixpoint, no_argument, one_argument}
 use Rattle.cic_rules.specs.Step.{delta_constant}
 use Rattle.cic_rules.specs.Conversion.{AtMost, identical, convertible, set_at_most_universe}
 use Rattle.cic_rules.specs.Conversion as C
-use Rattle.cic_rules.specs.Guard.{plain, main, smaller, function, smaller_variable, recursive_variable, fine_variable, fine_call, fine_parts, fine_match_on_smaller, none_fine, more_fine, no_fine_part, fine_branch, no_fine_branch, Guarded}
-use Rattle.cic_rules.specs.Typing.{Typed, Derivation, of_universe, set_in_set, in_prop, no_argument, one_argument, sorts, variable, constant, inductive_type, constructor, product, abstraction, application, matching, conversion, instance, no_branch, branch, of_no_proposition, none_sorted, more_sorted, none_typed, more_typed}
+use Rattle.cic_rules.specs.Shapes.{own_block}
+use Rattle.cic_rules.specs.Guard.{plain, main, smaller, function, smaller_variable, recursive_value, guarded_variable, guarded_call, guarded_parts, guarded_match, none_guarded, more_guarded, no_guarded_part, guarded_branch, no_guarded_branch, Guarded}
+use Rattle.cic_rules.specs.Typing.{Typed, Derivation, of_universe, set_in_set, in_prop, sorts, variable, constant, inductive_type, constructor, product, abstraction, application, matching, conversion, instance, no_branch, branch, of_no_proposition, none_sorted, more_sorted, none_typed, more_typed}
 use Rattle.cic_rules.specs.Typing as Ty
-use Rattle.cic_counted.specs.Examples.{id_of, nat, O, eq, eq_type, N, match_nat, zero_function, with_N}
+use Rattle.cic_counted.specs.calls.Examples.{id_of, nat, O, eq, eq_type, N, match_nat, zero_function, with_N}
 
 nat_is_set : (G : Context) → Typed with_N [] G nat (sort set)
 nat_is_set G = inductive_type refl refl
@@ -36,7 +37,7 @@ O_equals_O G =
 -- The rule on the arguments of an inductive type that has a sort.
 O_is_nat_by_instance : (G : Context) → Typed with_N [] G O nat
 O_is_nat_by_instance G =
-    instance (id_of (codes "eq")) (record { type = prod eq_type (prod (rel 0) (prod (rel 1) (sort prop))); parameters = 2 })
+    instance (id_of (codes "eq")) (record { arity = prod eq_type (prod (rel 0) (prod (rel 1) (sort prop))); parameters = 2 })
     (nat ∷ []) (O ∷ []) (eq nat O O) (prod nat (sort prop)) (sort prop)
     refl refl (O_equals_O G)
     (one_argument {t = prod nat (prod nat (sort prop))} refl no_argument)
@@ -54,7 +55,7 @@ not_function j e = grind arith
 main_not_function : (j : ℕ) → main ≢ function j
 main_not_function j e = grind arith
 
-smaller_not_function : (j : ℕ) → smaller ≢ function j
+smaller_not_function : (j : ℕ) → smaller own_block ≢ function j
 smaller_not_function j e = grind arith
 
 zero_is_guarded : Guarded with_N (zero_function ∷ [])
@@ -63,11 +64,11 @@ zero_is_guarded = (
     head = id_of (codes "nat");
     arguments = [];
     recursive_domain = refl;
-    fine_body = fine_match_on_smaller (recursive_variable refl) (fine_parts no_fine_part) (fine_variable main_not_function)
-        (fine_branch [] refl refl (fine_parts no_fine_part)
-        (fine_branch (smaller ∷ []) refl refl
-        (fine_call 2 0 0 (rel 0 ∷ []) (rel 0) refl refl refl refl (smaller_variable refl) (more_fine (fine_variable smaller_not_function) none_fine))
-        no_fine_branch));
+    guarded_body = guarded_match (Some own_block) (recursive_value refl) (guarded_parts no_guarded_part) (guarded_variable main_not_function)
+        (guarded_branch [] refl refl (guarded_parts no_guarded_part)
+        (guarded_branch (smaller own_block ∷ []) refl refl
+        (guarded_call 2 0 0 (rel 0 ∷ []) (rel 0) own_block refl refl refl refl (smaller_variable refl) (more_guarded (guarded_variable smaller_not_function) none_guarded))
+        no_guarded_branch));
   },
   tt,
 )

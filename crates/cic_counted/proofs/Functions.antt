@@ -5,7 +5,8 @@ use Rattle.std.proofs.Math.Nat.{zero-add, add-zero, suc-add}
 use Rattle.std.proofs.Math.Seq.{take-append_seam, drop-append-add}
 use Rattle.std.proofs.lemmas.List.{append-nil, append_assoc}
 use Rattle.cic_terms.specs.Tree.{Tree, Children, no_child, child, join, app}
-use Rattle.cic_rules.specs.Telescopes.{Function, domain_parts, function_parts, function_shapes, trees_of, tree_at, split_functions, functions_if_parts, functions_of, apply, arguments_of}
+use Rattle.cic_rules.specs.Telescopes.{Function, domain_parts, function_parts, function_shapes, apply}
+use Rattle.cic_counted.specs.Readings.{trees_of, tree_at, split_functions, functions_if_parts, functions_of, arguments_of}
 use Rattle.cic_counted.proofs.Decided.{same_children-refl}
 
 pub trees_of-join : (ks ls : Children) → trees_of (join ks ls) ≡ trees_of ks ++ trees_of ls
@@ -22,7 +23,7 @@ tree_at-append [] ts i = ap (tree_at ts) (zero-add i)
 tree_at-append (a ∷ as_) ts i = ap (tree_at (a ∷ (as_ ++ ts))) (suc-add (length as_) i) ∙ tree_at-append as_ ts i
 
 make : ℕ → List Tree → Tree → Tree → Function
-make k domains codomain body = record { k = k; domains = domains; codomain = codomain; body = body }
+make k domains codomain body = record { recursive_place = k; domains = domains; codomain = codomain; body = body }
 
 split_parts : (all : ℕ) (fs : List Function) → split_functions (function_shapes fs) (trees_of (function_parts all fs)) ≡ fs
 unfolding make
@@ -33,9 +34,9 @@ split_parts all (f ∷ fs) =
     trees_of-join (domain_parts 0 f.domains) _ ∙ ap (λ z. z ++ tail) (trees_of-domains 0 f.domains) in
     let codomain : tree_at (f.domains ++ tail) (length f.domains) ≡ f.codomain =
     ap (tree_at (f.domains ++ tail)) (sym (add-zero (length f.domains))) ∙ tree_at-append f.domains tail 0 in
-    let first : make f.k (take (length f.domains) (f.domains ++ tail)) (tree_at (f.domains ++ tail) (length f.domains)) (tree_at (f.domains ++ tail) (length f.domains + 1)) ≡ f =
-    ap (λ d. make f.k d (tree_at (f.domains ++ tail) (length f.domains)) (tree_at (f.domains ++ tail) (length f.domains + 1))) (take-append_seam f.domains tail)
-    ∙ ap₂ (make f.k f.domains) codomain (tree_at-append f.domains tail 1) in
+    let first : make f.recursive_place (take (length f.domains) (f.domains ++ tail)) (tree_at (f.domains ++ tail) (length f.domains)) (tree_at (f.domains ++ tail) (length f.domains + 1)) ≡ f =
+    ap (λ d. make f.recursive_place d (tree_at (f.domains ++ tail) (length f.domains)) (tree_at (f.domains ++ tail) (length f.domains + 1))) (take-append_seam f.domains tail)
+    ∙ ap₂ (make f.recursive_place f.domains) codomain (tree_at-append f.domains tail 1) in
     let others : split_functions (function_shapes fs) (drop (length f.domains + 2) (f.domains ++ tail)) ≡ fs =
     ap (split_functions (function_shapes fs)) (drop-append-add f.domains tail 2) ∙ split_parts all fs in
     ap (split_functions (function_shapes (f ∷ fs))) parts ∙ ap₂ ◌∷◌ first others

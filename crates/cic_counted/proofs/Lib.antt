@@ -9,3 +9,4 @@ pub mod Keys
 pub mod Runs
 pub mod RunsConversion
 pub mod RunsTyping
+pub mod InstanceLimit

@@ -4,13 +4,15 @@
 use Rattle.std.proofs.Common.{◌≡◌, ℕ, zero, suc, ◌+◌, ◌-◌, ◌≤◌, max, true, false, if◌then◌else◌, Some, List, length, refl, sym, ap, ap₂, ◌∙◌, arith, subst}
 use Rattle.cic_terms.specs.Tree.{Tree, rel, lam, let_in, app, const, case}
 use Rattle.cic_terms.specs.Lift.{lift_tree, subst_tree}
-use Rattle.cic_rules.specs.Constraints.{Constraint}
+use Rattle.cic_names.specs.declared.constraint.Constraint.{Constraint}
 use Rattle.cic_rules.specs.Environment.{Environment, Context, body_at, transparent_body}
-use Rattle.cic_rules.specs.Telescopes.{apply, head_of, arguments_of}
+use Rattle.cic_rules.specs.Telescopes.{apply, head_of}
+use Rattle.cic_counted.specs.Readings.{arguments_of}
 use Rattle.cic_counted.specs.Outcome.{Budget, done, Counted, follow, ◌>>=◌, give, stop, spent, tick, is_small, fitting}
 use Rattle.cic_counted.specs.Evaluation.{answer, again, variable_turn, constant_turn, recursive_turn, fix_turn, application_turn, match_turn, is_constructor, unfolds, matched, turn_of, goes_on, loop_of, whnf_at}
-use Rattle.cic_counted.specs.Done.{insert_all, left_after, Cost, free, ◌then◌, called, stepped, IsAbstraction, Stays, Evaluates, Reduces, evaluates, stays, variable_stays, variable_steps, constant_stays, constant_steps, let_steps, function_applied, application_stays, recursion_stays, recursion_steps, match_stays, match_steps}
-use Rattle.cic_counted.proofs.Taken.{insert_all-append}
+use Rattle.cic_names.specs.Orders.{insert_constraints}
+use Rattle.cic_counted.specs.calls.Done.{left_after, Cost, free, ◌then◌, called, stepped, IsAbstraction, NeedsNoEvaluation, Evaluates, Reduces, evaluates, needs_no_evaluation, variable_stays, variable_steps, constant_stays, constant_steps, let_steps, function_applied, application_stays, recursion_stays, recursion_steps, match_stays, match_steps}
+use Rattle.cic_counted.proofs.Taken.{inserted_one_by_one}
 
 -- The budget with so much left and these constraints found.
 abbrev pub made : ℕ → List Constraint → Budget
@@ -24,12 +26,12 @@ abbrev pub less_one : Budget → Budget
 less_one b = record { rest = b.rest - 1; found = b.found }
 
 left_stepped : (c : Cost) (b : Budget) → left_after c (less_one b) ≡ left_after (stepped c) b
-left_stepped c b = let e : b.rest - 1 - c.steps ≡ b.rest - (c.steps + 1) = omega arith in ap (λ r. made r (insert_all b.found c.found)) e
+left_stepped c b = let e : b.rest - 1 - c.steps ≡ b.rest - (c.steps + 1) = omega arith in ap (λ r. made r (insert_constraints b.found c.found)) e
 
 pub left_then : (c d : Cost) (b : Budget) → left_after d (left_after c b) ≡ left_after (c then d) b
 left_then c d b =
     let e : b.rest - c.steps - d.steps ≡ b.rest - (c.steps + d.steps) = omega arith in
-    ap₂ made e (sym (insert_all-append b.found c.found d.found))
+    ap₂ made e (sym (inserted_one_by_one b.found c.found d.found))
 
 -- A step.
 fit_at : (t : Tree) (h : Tree → Tree) (rest : ℕ) (found : List Constraint) → 1 ≤ rest → is_small t ≡ true → follow (tick (record { rest = rest; found = found })) (λ _. fitting t >>= (λ u. give (again (h u)))) ≡ done (again (h t)) (record { rest = rest - 1; found = found })
@@ -63,7 +65,7 @@ module _ (E : Environment) (G : Context) where
   not_abstraction whnf (lam a t) u b n = absurd (n tt)
   not_abstraction whnf g u b n = refl
 
-  stays_turn : (whnf : Tree → Counted Tree) (t : Tree) (b : Budget) → Stays t → turn_of whnf E G t b ≡ done (answer t) b
+  stays_turn : (whnf : Tree → Counted Tree) (t : Tree) (b : Budget) → NeedsNoEvaluation t → turn_of whnf E G t b ≡ done (answer t) b
   stays_turn whnf (rel x) b h = absurd h
   stays_turn whnf (const c) b h = absurd h
   stays_turn whnf (let_in t a u) b h = absurd h
@@ -115,7 +117,7 @@ module _ (E : Environment) (G : Context) where
   enter_at k t v c h zero found p = absurd (omega (arith, p))
   enter_at k t v c h (suc r) found p =
       let e : r - c.steps ≡ suc r - (c.steps + 1) = omega arith in
-      h r (record { rest = r; found = found }) (omega (arith, p)) (omega arith) ∙ ap (λ z. done v (made z (insert_all found c.found))) e
+      h r (record { rest = r; found = found }) (omega (arith, p)) (omega arith) ∙ ap (λ z. done v (made z (insert_constraints found c.found))) e
 
   call_at : (k : ℕ) (t v : Tree) (c : Cost) → ((j : ℕ) → c.depth ≤ j → Runs j t v c) → (called c).depth ≤ k → Calls k t v (called c)
   unfolding Calls whnf_at
@@ -130,7 +132,7 @@ module _ (E : Environment) (G : Context) where
         along (λ z. z.depth ≤ k → Calls k t v z) q (call_at k t v c (reduces_runs h))
 
     reduces_runs : {t v : Tree} {c : Cost} → Reduces E G t v c → (k : ℕ) → c.depth ≤ k → Runs k t v c
-    reduces_runs (stays {t = t} h) k = λ d n b p q. loop_answer (whnf_at k E G) n t t b b (stays_turn (whnf_at k E G) t b h) ∙ ap (done t) (left_free b)
+    reduces_runs (needs_no_evaluation {t = t} h) k = λ d n b p q. loop_answer (whnf_at k E G) n t t b b (stays_turn (whnf_at k E G) t b h) ∙ ap (done t) (left_free b)
     reduces_runs (variable_stays {x = x} e) k = λ d n b p q. loop_answer (whnf_at k E G) n (rel x) (rel x) b b (ap (λ o. variable_turn o x b) e) ∙ ap (done (rel x)) (left_free b)
     reduces_runs (variable_steps {x = x} {b = t} {v = v} {c = c} e s h kq) k =
         along (λ z. z.depth ≤ k → Runs k (rel x) v z) kq (λ d n b p q.
@@ -146,7 +148,7 @@ module _ (E : Environment) (G : Context) where
         along (λ z. z.depth ≤ k → Runs k (app f u) v z) kq (λ d n b p q.
         goes k (app f u) (subst_tree 0 u t) v c c' (reduces_runs h k (max_right c.depth c'.depth k d)) n b p q
         (ap (λ o. follow o (λ g. application_turn (whnf_at k E G) g u)) (evaluates_runs hf k (max_left c.depth c'.depth k d) b (omega (arith, p)))
-        ∙ fit_at (subst_tree 0 u t) (λ z. z) (b.rest - c.steps) (insert_all b.found c.found) (omega (arith, p)) s))
+        ∙ fit_at (subst_tree 0 u t) (λ z. z) (b.rest - c.steps) (insert_constraints b.found c.found) (omega (arith, p)) s))
     reduces_runs (application_stays {f = f} {g = g} {u = u} {t = t} {c = c} hf m e tq) k = λ d n b p q.
         loop_answer (whnf_at k E G) n (app f u) (app g u) b (left_after c b)
         (ap (λ o. follow o (λ g. application_turn (whnf_at k E G) g u)) (evaluates_runs hf k d b p)
@@ -181,7 +183,7 @@ module _ (E : Environment) (G : Context) where
         goes k (case id m motive t branches) u v c c' (reduces_runs h k (max_right c.depth c'.depth k d)) n b p q
         (ap (λ o. follow o (λ w. match_turn (case id m motive w branches) (matched E id branches (arguments_of w) (head_of w)))) (evaluates_runs hf k (max_left c.depth c'.depth k d) b (omega (arith, p)))
         ∙ ap (λ o. match_turn (case id m motive w branches) o (left_after c b)) e
-        ∙ fit_at u (λ z. z) (b.rest - c.steps) (insert_all b.found c.found) (omega (arith, p)) s))
+        ∙ fit_at u (λ z. z) (b.rest - c.steps) (insert_constraints b.found c.found) (omega (arith, p)) s))
 
 pub whnf_runs : (E : Environment) (G : Context) (k : ℕ) (t v : Tree) (c : Cost) (b : Budget) → Evaluates E G t v c → c.depth ≤ k → c.steps ≤ b.rest → whnf_at k E G t b ≡ done v (left_after c b)
 unfolding Calls

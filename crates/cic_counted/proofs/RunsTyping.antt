@@ -6,19 +6,21 @@ use Rattle.std.proofs.lemmas.List.{append_assoc}
 use Rattle.cic_terms.specs.Tree.{TreeSort, Shape, Tree, Children, child, sort, prod, lam, let_in, app, ind, case, fix}
 use Rattle.cic_terms.specs.Lift.{lift_tree, subst_tree}
 use Rattle.cic_names.specs.declared.name.GlobalId.{GlobalId}
-use Rattle.cic_rules.specs.Sameness.{same_tree}
-use Rattle.cic_rules.specs.Constraints.{Constraint}
+use Rattle.cic_counted.specs.Sameness.{same_tree}
+use Rattle.cic_names.specs.declared.constraint.Constraint.{Constraint}
 use Rattle.cic_rules.specs.Numbering.{plain_level}
-use Rattle.cic_rules.specs.Environment.{Environment, Context, TypeInBlock, TypeDeclaration, ConstructorDeclaration, arity_of, constructor_of, constant_type, type_at, whole_block, element, assumed, defined}
-use Rattle.cic_rules.specs.Telescopes.{apply, head_of, arguments_of, domains_of, extend, substitute_all, variables, lift_all, instantiate, Function, functions_of, function_types, function_type, full_body}
-use Rattle.cic_counted.specs.Outcome.{Budget, unguarded, done, Cause, Counted, follow, ◌>>=◌, ◌>>◌, give, tick, is_small, fitting, or_refuse, require}
+use Rattle.cic_rules.specs.Environment.{Environment, Context, TypeInBlock, TypeDeclaration, ConstructorDeclaration, inductive_type_of, constructor_of, constant_type, type_at, whole_block, element, assumed, defined}
+use Rattle.cic_rules.specs.Telescopes.{apply, head_of, domains_of, extend, substitute_all, variables, lift_all, Function, function_types, function_type, full_body}
+use Rattle.cic_counted.specs.Readings.{arguments_of, instantiate, functions_of}
+use Rattle.cic_counted.specs.Outcome.{Budget, universe_form, unguarded, done, Cause, Counted, follow, ◌>>=◌, ◌>>◌, give, tick, is_small, fitting, or_refuse, require}
 use Rattle.cic_counted.specs.BlockTests.{is_shaped, index_count}
 use Rattle.cic_counted.specs.GuardTest.{guard_fault}
 use Rattle.cic_counted.specs.Evaluation.{whnf_at, cumul_at}
 use Rattle.cic_counted.specs.Inference.{next_level, Calls, are_branches, product_sort, as_sort, expose, is_prop, branch_goal, all_propositions, eliminates, check_branches, sort_each, function_context, check_bodies, infer_step, check_step, sort_step, calls_at}
 use Rattle.cic_rules.specs.Typing.{function_entries}
-use Rattle.cic_counted.specs.Done.{left_after, insert_all, Cost, free, ◌then◌, called, AllSmall}
-use Rattle.cic_counted.specs.DoneTyping.{SmallEntries, Infers, infers, Checks, checks, SortOf, sorts_of, Exposes, exposes_itself, exposes_another, HasInferred, infers_variable, infers_prop, infers_set, infers_universe, infers_product, infers_abstraction, infers_let, infers_application, infers_constant, infers_type, infers_constructor, infers_match, infers_fix, Eliminates, eliminates_freely, eliminates_nothing, eliminates_propositions, AllPropositions, no_more, proposition, ChecksBranches, no_branch_left, checks_branch, SortsEach, sorts_none, sorts_one_more, ChecksBodies, no_body_left, checks_body}
+use Rattle.cic_names.specs.Orders.{insert_constraints}
+use Rattle.cic_counted.specs.calls.Done.{left_after, Cost, free, ◌then◌, called, AllSmall}
+use Rattle.cic_counted.specs.calls.DoneTyping.{SmallEntries, Infers, infers, Checks, checks, SortOf, sorts_of, Exposes, exposes_itself, exposes_another, HasInferred, infers_variable, infers_prop, infers_set, infers_universe, infers_product, infers_abstraction, infers_let, infers_application, infers_constant, infers_type, infers_constructor, infers_match, infers_fix, Eliminates, eliminates_freely, eliminates_nothing, eliminates_propositions, AllPropositions, no_more, proposition, ChecksBranches, no_branch_left, checks_branch, SortsEach, sorts_none, sorts_one_more, ChecksBodies, no_body_left, checks_body}
 use Rattle.cic_counted.proofs.Decided.{both_true}
 use Rattle.cic_counted.proofs.Runs.{left_free, left_then, whnf_runs, made, max_left, max_right, along}
 use Rattle.cic_counted.proofs.RunsConversion.{fitting_at, fitting_all_at, body_at, cumulates_run}
@@ -124,10 +126,10 @@ module _ (E : Environment) (k : ℕ) (calls : Calls)
   fit_to : (V T : Tree) (b : Budget) → T ≡ V → is_small T ≡ true → fitting V b ≡ done T b
   fit_to V T b q h = subst (λ z. fitting z b ≡ done T b) q (fitting_at T b h)
 
-  product_at : {G : Context} {x y : Tree} {T : Tree} {s s' : TreeSort} {c d : Cost} → SortOf E G x s c → SortOf E (assumed x ∷ G) y s' d → T ≡ sort (product_sort s s') → max c.depth d.depth ≤ k → GivesAt (infer_step (whnf_at k E) calls E G (prod x y)) T (c then d)
-  product_at {G} {x} {y} {T} {s} {s'} {c} {d} h h' q l =
+  product_at : {G : Context} {x y : Tree} {T : Tree} {s s' r : TreeSort} {c d : Cost} → SortOf E G x s c → SortOf E (assumed x ∷ G) y s' d → product_sort s s' ≡ Some r → T ≡ sort r → max c.depth d.depth ≤ k → GivesAt (infer_step (whnf_at k E) calls E G (prod x y)) T (c then d)
+  product_at {G} {x} {y} {T} {s} {s'} {r} {c} {d} h h' w q l =
       after_at (calls.sort_of G x) _ s T c d (sort_runs h (max_left c.depth d.depth k l))
-      (then_at (calls.sort_of (assumed x ∷ G) y) (λ s'. give (sort (product_sort s s'))) s' T d (sort_runs h' (max_right c.depth d.depth k l)) (λ b. ap (λ z. done z b) (sym q)))
+      (then_at (calls.sort_of (assumed x ∷ G) y) (λ s'. or_refuse (product_sort s s') (universe_form s s') >>= (λ r. give (sort r))) s' T d (sort_runs h' (max_right c.depth d.depth k l)) (λ b. rw w (ap (λ z. done z b) (sym q))))
 
   abstraction_at : {G : Context} {x y t T : Tree} {s : TreeSort} {c d : Cost} → SortOf E G x s c → Infers E (assumed x ∷ G) t y d → T ≡ prod x y → max c.depth d.depth ≤ k → GivesAt (infer_step (whnf_at k E) calls E G (lam x t)) T (c then d)
   abstraction_at {G} {x} {y} {t} {T} {s} {c} {d} h h' q l =
@@ -193,12 +195,12 @@ module _ (E : Environment) (k : ℕ) (calls : Calls)
   has_inferred_run (infers_set {T = T} q) = λ d. given_at _ T (λ b. ap (λ z. done z b) (sym q))
   has_inferred_run (infers_universe {e = e} {l = l} {T = T} h q) = λ d.
       before_at (or_refuse (plain_level e) _) _ l T free (λ b. or_refuse_at (plain_level e) _ l b h) (given_at (give (sort (next_level l))) T (λ b. ap (λ z. done z b) (sym q)))
-  has_inferred_run (infers_product {G = G} {a = x} {b = y} {T = T} h h' q kq) = along (λ z. z.depth ≤ k → GivesAt (infer_step (whnf_at k E) calls E G (prod x y)) T z) kq (product_at h h' q)
+  has_inferred_run (infers_product {G = G} {a = x} {b = y} {T = T} h h' w q kq) = along (λ z. z.depth ≤ k → GivesAt (infer_step (whnf_at k E) calls E G (prod x y)) T z) kq (product_at h h' w q)
   has_inferred_run (infers_abstraction {G = G} {a = x} {t = t} {T = T} h h' q kq) = along (λ z. z.depth ≤ k → GivesAt (infer_step (whnf_at k E) calls E G (lam x t)) T z) kq (abstraction_at h h' q)
   has_inferred_run (infers_let {G = G} {t = t} {a = x} {u = u} {T = T} h i j q small kq) = along (λ z. z.depth ≤ k → GivesAt (infer_step (whnf_at k E) calls E G (let_in t x u)) T z) kq (let_at h i j q small)
   has_inferred_run (infers_application {G = G} {f = f} {u = u} {T = T} h i j q small kq) = along (λ z. z.depth ≤ k → GivesAt (infer_step (whnf_at k E) calls E G (app f u)) T z) kq (application_at h i j q small)
   has_inferred_run (infers_constant {id = id} {T = T} e) = λ d. given_at _ T (λ b. or_refuse_at (constant_type E id) _ T b e)
-  has_inferred_run (infers_type {id = id} {a = a} {T = T} e q) = λ d. given_at _ T (λ b. or_refuse_at (option_map (λ a. a.type) (arity_of E id)) _ T b (ap (option_map (λ a. a.type)) e ∙ ap Some (sym q)))
+  has_inferred_run (infers_type {id = id} {a = a} {T = T} e q) = λ d. given_at _ T (λ b. or_refuse_at (option_map (λ a. a.arity) (inductive_type_of E id)) _ T b (ap (option_map (λ a. a.arity)) e ∙ ap Some (sym q)))
   has_inferred_run (infers_constructor {id = id} {K = K} {T = T} e q) = λ d. given_at _ T (λ b. or_refuse_at (option_map (λ z. z.type) (constructor_of E id)) _ T b (ap (option_map (λ z. z.type)) e ∙ ap Some (sym q)))
   has_inferred_run (infers_fix {G = G} {which = which} {shapes = shapes} {parts = parts} {T = T} fs q e hs small hb g r kq) = along (λ z. z.depth ≤ k → GivesAt (infer_step (whnf_at k E) calls E G (fix which shapes parts)) T z) kq (fix_at which shapes parts fs q e hs small hb g r)
   has_inferred_run (infers_match {G = G} {id = id} {n = n} {p = p} {v = v} {F = F} {V = V} {T = T} {branches = branches} {place = place} {t = t} {s = s} {c = c} {d = d} {e = e} {f = f} {g = g} r a ps found shaped is_type rq aq hi he hh hl pq hn hb sd sl hs hel hbr q small kq) =
@@ -220,7 +222,7 @@ enter_with : {A : Type 0} (m : Counted A) (v : A) (c : Cost) → GivesAt m v c �
 enter_with m v c h zero found p = absurd (omega (arith, p))
 enter_with m v c h (suc r) found p =
     let e : r - c.steps ≡ suc r - (c.steps + 1) = omega arith in
-    h (record { rest = r; found = found }) (omega (arith, p)) ∙ ap (λ z. done v (made z (insert_all found c.found))) e
+    h (record { rest = r; found = found }) (omega (arith, p)) ∙ ap (λ z. done v (made z (insert_constraints found c.found))) e
 
 record AllRun (E : Environment) (k : ℕ) : Type 0 where
   infer : (G : Context) (t T : Tree) (c : Cost) → Infers E G t T c → c.depth ≤ k → GivesAt ((calls_at k E).infer G t) T c

@@ -4,16 +4,18 @@
 use Rattle.std.proofs.Common.{◌≡◌, ℕ, zero, suc, ◌+◌, ◌≤◌, max, Bool, true, false, if◌then◌else◌, Option, Some, None, List, [], ◌∷◌, ◌++◌, length, refl, sym, ap, ◌∙◌, arith, subst}
 use Rattle.cic_terms.specs.Tree.{Tree, rel, lam, let_in, app, const, case}
 use Rattle.cic_terms.specs.Lift.{lift_tree, subst_tree}
-use Rattle.cic_rules.specs.Constraints.{Constraint, insert}
+use Rattle.cic_names.specs.declared.constraint.Constraint.{Constraint}
+use Rattle.cic_names.specs.Orders.{insert_constraint, insert_constraints}
 use Rattle.cic_rules.specs.Environment.{Environment, Context, body_at, transparent_body}
-use Rattle.cic_rules.specs.Telescopes.{apply, head_of, arguments_of}
+use Rattle.cic_rules.specs.Telescopes.{apply, head_of}
+use Rattle.cic_counted.specs.Readings.{arguments_of}
 use Rattle.cic_counted.specs.Outcome.{Budget, Outcome, done, stops, Counted, follow, ◌>>=◌, give, stop, deep, spent, tick, is_small, fitting}
 use Rattle.cic_counted.specs.Evaluation.{answer, again, variable_turn, constant_turn, recursive_turn, fix_turn, application_turn, match_turn, is_constructor, unfolds, matched, turn_of, goes_on, loop_of, whnf_at}
-use Rattle.cic_counted.specs.Done.{insert_all, Took, Evaluated, Cost, free, ◌then◌, called, stepped, IsAbstraction, Evaluates, Reduces, evaluates, stays, variable_stays, variable_steps, constant_stays, constant_steps, let_steps, function_applied, application_stays, recursion_stays, recursion_steps, match_stays, match_steps}
+use Rattle.cic_counted.specs.calls.Done.{Took, Evaluated, Cost, free, ◌then◌, called, stepped, IsAbstraction, Evaluates, Reduces, evaluates, needs_no_evaluation, variable_stays, variable_steps, constant_stays, constant_steps, let_steps, function_applied, application_stays, recursion_stays, recursion_steps, match_stays, match_steps}
 
-pub insert_all-append : (found cs ds : List Constraint) → insert_all found (cs ++ ds) ≡ insert_all (insert_all found cs) ds
-insert_all-append found [] ds = refl
-insert_all-append found (c ∷ cs) ds = insert_all-append (insert c found) cs ds
+pub inserted_one_by_one : (found cs ds : List Constraint) → insert_constraints found (cs ++ ds) ≡ insert_constraints (insert_constraints found cs) ds
+inserted_one_by_one found [] ds = refl
+inserted_one_by_one found (c ∷ cs) ds = inserted_one_by_one (insert_constraint found c) cs ds
 
 pub took_free : (b : Budget) → Took free b b
 took_free b = record { rest = omega arith; found = refl }
@@ -21,7 +23,7 @@ took_free b = record { rest = omega arith; found = refl }
 pub took_then : {c d : Cost} {b b' b'' : Budget} → Took c b b' → Took d b' b'' → Took (c then d) b b''
 took_then {c} {d} {b} {b'} {b''} h k = record {
   rest = let p = h.rest in let q = k.rest in omega (arith, p, q);
-  found = k.found ∙ ap (λ z. insert_all z d.found) h.found ∙ sym (insert_all-append b.found c.found d.found);
+  found = k.found ∙ ap (λ z. insert_constraints z d.found) h.found ∙ sym (inserted_one_by_one b.found c.found d.found);
 }
 
 -- A step, or the entry of a call, comes before.
@@ -139,7 +141,7 @@ module _ (E : Environment) (G : Context) (k : ℕ) (whnf on : Tree → Counted T
       let a = calls t i.0 b i.1 i.2 in
       match_done (case id n p t branches) i.0 v (case id n p i.0 branches) (matched E id branches (arguments_of i.0) (head_of i.0)) a.0 b i.1 b' a.2 a.3
       (λ q. match_stays a.1 q refl) (λ u r d q s h. match_steps a.1 q s h refl) i.3
-  turn_done t v b b' e = answered (stays tt) (omega arith) (took_free b) e
+  turn_done t v b b' e = answered (needs_no_evaluation tt) (omega arith) (took_free b) e
 
 -- The loop, and the calls.
 loop_done : (E : Environment) (G : Context) (k : ℕ) (whnf : Tree → Counted Tree) → ((t v : Tree) (b b' : Budget) → whnf t b ≡ done v b' → Evaluated E G k t v b b') → (n : ℕ) (t v : Tree) (b b' : Budget) → loop_of n whnf E G t b ≡ done v b' → Reduced E G k t v b b'

@@ -1,18 +1,22 @@
 -- What conversion and subtyping are done with stands in the relation, with its cost. By induction on the depth, over
 -- that of evaluation; the laws of conversion are proved by induction on the relation.
 use Rattle.std.proofs.Common.{◌≡◌, ◌≢◌, ℕ, zero, suc, ◌≤◌, Bool, true, false, ◌&&◌, nat_eq, if◌then◌else◌, Option, Some, None, List, [], ◌∷◌, length, refl, sym, ap, ap₂, ◌∙◌, arith, subst}
-use Rattle.cic_terms.specs.Tree.{TreeSort, prop, set, typ, Shape, Former, LetF, CaseF, FixF, over, Tree, rel, node, Children, no_child, child, sort, prod}
+use Rattle.cic_terms.specs.Tree.{TreeSort, prop, set, typ, Shape, Former, LetF, CaseF, FixF, over, Tree, rel, node, Children, no_child, child, sort, prod, app}
+use Rattle.cic_terms.specs.Lift.{lift_tree}
 use Rattle.cic_names.specs.declared.level.Level.{Level}
 use Rattle.cic_names.specs.declared.level.Atom.{Atom}
-use Rattle.cic_rules.specs.Sameness.{same_id, same_atoms, same_sort, same_shapes, same_former, same_binders, same_tree, same_children}
-use Rattle.cic_rules.specs.Constraints.{Constraint, insert}
+use Rattle.cic_names.specs.Sameness.{same_id, same_atoms}
+use Rattle.cic_counted.specs.Sameness.{same_sort, same_shapes, same_former, same_binders, same_tree, same_children}
+use Rattle.cic_names.specs.declared.constraint.Constraint.{Constraint}
+use Rattle.cic_names.specs.Orders.{insert_constraint}
 use Rattle.cic_rules.specs.Numbering.{plain_level}
 use Rattle.cic_rules.specs.Environment.{Environment, Context, unknown, under_unknown}
-use Rattle.cic_rules.specs.Telescopes.{abstractions, lift_domains, Function, trees_of, function_parts, split_functions, functions_of, function_types, full_body}
+use Rattle.cic_rules.specs.Telescopes.{abstractions, lift_domains, Function, function_parts, function_types, full_body}
+use Rattle.cic_counted.specs.Readings.{trees_of, split_functions, functions_of}
 use Rattle.cic_counted.specs.Outcome.{Budget, done, Counted, follow, ◌>>=◌, give, tick, fitting, fitting_all}
-use Rattle.cic_counted.specs.Evaluation.{equal_levels, equal_sorts, atoms_below, levels_at_most, sorts_at_most, same_places, convert_children, convert_each, fitting_body, convert_bodies, convert_functions, value_first, compare_nodes, compare, conv_step, conv_at, below_or_equal, cumul_step, cumul_at, whnf_at, differ}
-use Rattle.cic_counted.specs.Done.{Cost, free, ◌then◌, called, finds, Took, AllSmall, Evaluates, SortsEqual, same_sorts, levels_equal, AtomsBelow, no_atom, atom_below, SortsBelow, prop_below, set_below_set, set_below_universe, same_universes, levels_below, InOrder, Converts, converts_same, converts_heads, Compares, same_variables, in_order, matches, fixpoints, ConvertsParts, converts_no_part, converts_part, ConvertsEach, converts_none, converts_more, ConvertsBodies, converts_no_body, converts_body, Cumulates, cumulates_same, cumulates_heads, Below, products_below, sorts_below, compared, Converted, Cumulated}
-use Rattle.cic_counted.specs.Done as D
+use Rattle.cic_counted.specs.Evaluation.{equal_levels, equal_sorts, atoms_below, levels_at_most, sorts_at_most, same_places, convert_children, convert_each, fitting_body, convert_bodies, convert_functions, value_first, compare_nodes, compare, body_of, by_bodies, compare_heads, conv_step, conv_at, below_or_equal, cumul_step, cumul_at, whnf_at, differ}
+use Rattle.cic_counted.specs.calls.Done.{Cost, free, ◌then◌, called, finds, Took, AllSmall, Evaluates, SortsEqual, same_sorts, levels_equal, AtomsBelow, no_atom, atom_below, SortsBelow, prop_below, set_below_set, set_below_universe, same_universes, levels_below, InOrder, Converts, converts_same, converts_heads, Compares, same_variables, in_order, matches, fixpoints, expands_left, expands_right, ConvertsParts, converts_no_part, converts_part, ConvertsEach, converts_none, converts_more, ConvertsBodies, converts_no_body, converts_body, Cumulates, cumulates_same, cumulates_heads, Below, products_below, sorts_below, compared, Converted, Cumulated}
+use Rattle.cic_counted.specs.calls.Done as D
 use Rattle.cic_counted.proofs.Decided.{both, both_true}
 use Rattle.cic_counted.proofs.Taken.{took_free, took_then, follow_done, done_value, done_rest, fitting_done, max_le, whnf_done}
 
@@ -23,7 +27,7 @@ At k R b b' = (c : Cost) × R c × (c.depth ≤ k) × Took c b b'
 pub at_free : {k : ℕ} {R : Cost → Type 0} {A : Type 0} {u v : A} {b b' : Budget} → R free → done u b ≡ done v b' → At k R b b'
 at_free {b = b} h e = (free, h, omega arith, subst (λ z. Took free b z) (done_rest e) (took_free b))
 
-took_note : (c : Constraint) (b : Budget) → Took (finds c) b (record { rest = b.rest; found = insert c b.found })
+took_note : (c : Constraint) (b : Budget) → Took (finds c) b (record { rest = b.rest; found = insert_constraint b.found c })
 took_note c b = record { rest = omega arith; found = refl }
 
 levels_done : {k : ℕ} (e e' : List Atom) (u : Unit {0}) (b b' : Budget) → same_atoms e e' ≡ false → (l m : Option Level) → plain_level e ≡ l → plain_level e' ≡ m → equal_levels e e' l m b ≡ done u b' → At k (SortsEqual (typ e) (typ e')) b b'
@@ -218,6 +222,34 @@ module _ (E : Environment) (k : ℕ) (conv : Context → Tree → Tree → Count
   compare_done G (rel x) (node g ls) u b b' h = absurd (grind arith)
   compare_done G (node f ks) (rel y) u b b' h = absurd (grind arith)
 
+-- By eta, where one of them alone is an abstraction.
+module _ (E : Environment) (k : ℕ) (conv : Context → Tree → Tree → Counted (Unit {0}))
+    (calls : (G : Context) (t t' : Tree) (u : Unit {0}) (b b' : Budget) → conv G t t' b ≡ done u b' → Converted E G k t t' b b') where
+  bodies_done_by : (G : Context) (v w : Tree) (u : Unit {0}) (b b' : Budget) → (o o' : Option Tree) → body_of v ≡ o → body_of w ≡ o' → by_bodies conv G v w o o' b ≡ done u b' → At k (Compares E G v w) b b'
+  bodies_done_by G v w u b b' (Some t) None p q h =
+      let i = follow_done (fitting (lift_tree 0 1 w) b) (λ w'. conv (unknown ∷ G) t (app w' (rel 0))) u b' h in
+      let f = fitting_done (lift_tree 0 1 w) i.0 b i.1 i.2 in
+      let c = calls (unknown ∷ G) t (app i.0 (rel 0)) u i.1 b' i.3 in (
+        c.0,
+        expands_left p q f.0 (subst (λ z. Converts E (unknown ∷ G) t (app z (rel 0)) c.0) (sym f.1) c.1),
+        c.2,
+        subst (λ z. Took c.0 z b') (sym f.2) c.3,
+      )
+  bodies_done_by G v w u b b' None (Some t) p q h =
+      let i = follow_done (fitting (lift_tree 0 1 v) b) (λ v'. conv (unknown ∷ G) (app v' (rel 0)) t) u b' h in
+      let f = fitting_done (lift_tree 0 1 v) i.0 b i.1 i.2 in
+      let c = calls (unknown ∷ G) (app i.0 (rel 0)) t u i.1 b' i.3 in (
+        c.0,
+        expands_right p q f.0 (subst (λ z. Converts E (unknown ∷ G) (app z (rel 0)) t c.0) (sym f.1) c.1),
+        c.2,
+        subst (λ z. Took c.0 z b') (sym f.2) c.3,
+      )
+  bodies_done_by G v w u b b' None None p q h = compare_done E k conv calls G v w u b b' h
+  bodies_done_by G v w u b b' (Some t) (Some t') p q h = compare_done E k conv calls G v w u b b' h
+
+  compare_heads_done : (G : Context) (v w : Tree) (u : Unit {0}) (b b' : Budget) → compare_heads conv G v w b ≡ done u b' → At k (Compares E G v w) b b'
+  compare_heads_done G v w u b b' h = bodies_done_by G v w u b b' (body_of v) (body_of w) refl refl h
+
 -- The entry of a call.
 entry_done : (rest : ℕ) (found : List Constraint) (k : ℕ) (R S : Cost → Type 0) (body : Counted (Unit {0})) → ((c : Cost) → R c → S (called c)) → ((u : Unit {0}) (b b' : Budget) → body b ≡ done u b' → At k R b b') → (u : Unit {0}) (b' : Budget) → follow (tick (record { rest = rest; found = found })) (λ _. body) ≡ done u b' → At (suc k) S (record { rest = rest; found = found }) b'
 entry_done zero found k R S body up inner u b' h = absurd (grind arith)
@@ -237,14 +269,14 @@ converts_inner c (by_heads e h h' k q) = converts_heads e h h' k (ap called q)
 mutual_step : (E : Environment) (k : ℕ) (conv : Context → Tree → Tree → Counted (Unit {0})) → ((G : Context) (t t' : Tree) (u : Unit {0}) (b b' : Budget) → conv G t t' b ≡ done u b' → Converted E G k t t' b b') → (G : Context) (t t' : Tree) (u : Unit {0}) (b b' : Budget) → conv_step (whnf_at k E) conv G t t' b ≡ done u b' → At k (Unequal E G t t') b b'
 mutual_step E k conv calls G t t' u b b' h = cases _ refl h
   where
-    cases : (test : Bool) → same_tree t t' ≡ test → (if test then give tt else (whnf_at k E G t >>= (λ v. whnf_at k E G t' >>= (λ w. compare conv G v w)))) b ≡ done u b' → At k (Unequal E G t t') b b'
+    cases : (test : Bool) → same_tree t t' ≡ test → (if test then give tt else (whnf_at k E G t >>= (λ v. whnf_at k E G t' >>= (λ w. compare_heads conv G v w)))) b ≡ done u b' → At k (Unequal E G t t') b b'
     cases true q h = at_free (at_once q) h
     cases false q h =
-        let i = follow_done (whnf_at k E G t b) (λ v. whnf_at k E G t' >>= (λ w. compare conv G v w)) u b' h in
-        let j = follow_done (whnf_at k E G t' i.1) (λ w. compare conv G i.0 w) u b' i.3 in
+        let i = follow_done (whnf_at k E G t b) (λ v. whnf_at k E G t' >>= (λ w. compare_heads conv G v w)) u b' h in
+        let j = follow_done (whnf_at k E G t' i.1) (λ w. compare_heads conv G i.0 w) u b' i.3 in
         let p = whnf_done E G k t i.0 b i.1 i.2 in
         let p' = whnf_done E G k t' j.0 i.1 j.1 j.2 in
-        let r = compare_done E k conv calls G i.0 j.0 u j.1 b' j.3 in
+        let r = compare_heads_done E k conv calls G i.0 j.0 u j.1 b' j.3 in
         (p.0 then p'.0 then r.0, by_heads q p.1 p'.1 r.1 refl, max_le _ _ k (max_le _ _ k p.2 p'.2) r.2, took_then (took_then p.3 p'.3) r.3)
 
 pub conv_done : (E : Environment) (k : ℕ) (G : Context) (t t' : Tree) (u : Unit {0}) (b b' : Budget) → conv_at k E G t t' b ≡ done u b' → Converted E G k t t' b b'
@@ -265,9 +297,9 @@ cumulates_inner c (NotAtOnce.by_heads e h h' k q) = cumulates_heads e h h' k (ap
 module _ (E : Environment) (k : ℕ) (conv cumul : Context → Tree → Tree → Counted (Unit {0}))
     (conv_calls : (G : Context) (t t' : Tree) (u : Unit {0}) (b b' : Budget) → conv G t t' b ≡ done u b' → Converted E G k t t' b b')
     (cumul_calls : (G : Context) (t t' : Tree) (u : Unit {0}) (b b' : Budget) → cumul G t t' b ≡ done u b' → Cumulated E G k t t' b b') where
-  compared_done : (G : Context) (t t' : Tree) (u : Unit {0}) (b b' : Budget) → ((s : TreeSort) → t ≢ sort s) → ((x y : Tree) → t ≢ prod x y) → compare conv G t t' b ≡ done u b' → At k (Below E G t t') b b'
+  compared_done : (G : Context) (t t' : Tree) (u : Unit {0}) (b b' : Budget) → ((s s' : TreeSort) → t ≡ sort s → t' ≢ sort s') → ((x y x' y' : Tree) → t ≡ prod x y → t' ≢ prod x' y') → compare_heads conv G t t' b ≡ done u b' → At k (Below E G t t') b b'
   compared_done G t t' u b b' n m h =
-      let r = compare_done E k conv conv_calls G t t' u b b' h in
+      let r = compare_heads_done E k conv conv_calls G t t' u b b' h in
       (r.0, compared n m r.1, r.2, r.3)
 
   heads_done : (G : Context) (t t' : Tree) (u : Unit {0}) (b b' : Budget) → below_or_equal conv cumul G t t' b ≡ done u b' → At k (Below E G t t') b b'
@@ -279,9 +311,7 @@ module _ (E : Environment) (k : ℕ) (conv cumul : Context → Tree → Tree →
   heads_done G (sort s) (sort s') u b b' h =
       let r = below_done {k = k} G s s' u b b' h in
       (r.0, sorts_below r.1, r.2, r.3)
-  heads_done G (prod x y) t' u b b' h = absurd (grind arith)
-  heads_done G (sort s) t' u b b' h = absurd (grind arith)
-  heads_done G t t' u b b' h = compared_done G t t' u b b' (λ s e. grind arith) (λ x y e. grind arith) h
+  heads_done G t t' u b b' h = compared_done G t t' u b b' (λ s s' e e'. grind arith) (λ x y x' y' e e'. grind arith) h
 
   cumul_inner : (G : Context) (t t' : Tree) (u : Unit {0}) (b b' : Budget) → cumul_step (whnf_at k E) conv cumul G t t' b ≡ done u b' → At k (NotAtOnce E G t t') b b'
   cumul_inner G t t' u b b' h = cases _ refl h

@@ -6,19 +6,20 @@ use Rattle.std.proofs.lemmas.Bool.{eqb-true}
 use Rattle.cic_terms.specs.Tree.{TreeSort, prop, set, typ, own, Shape, Tree, rel, Children, no_child, child, sort, prod, lam, let_in, app, const, ind, ctor, case, fix}
 use Rattle.cic_terms.specs.Lift.{lift_tree}
 use Rattle.cic_names.specs.declared.name.GlobalId.{GlobalId}
-use Rattle.cic_rules.specs.Sameness.{same_tree}
-use Rattle.cic_rules.specs.Constraints.{Constraint}
+use Rattle.cic_counted.specs.Sameness.{same_tree}
+use Rattle.cic_names.specs.declared.constraint.Constraint.{Constraint}
 use Rattle.cic_rules.specs.Numbering.{plain_level}
-use Rattle.cic_rules.specs.Environment.{Environment, Context, TypeInBlock, TypeDeclaration, ConstructorDeclaration, constant_type, arity_of, whole_block, constructor_of, type_at, element, assumed, defined}
-use Rattle.cic_rules.specs.Telescopes.{apply, head_of, arguments_of, domains_of, conclusion_of, extend, substitute_all, variables, lift_all, instantiate, Function, functions_of, function_types, function_type, full_body}
-use Rattle.cic_counted.specs.Outcome.{Budget, done, Counted, Cause, unguarded, not_inductive, bad_branch_count, follow, ◌>>=◌, ◌>>◌, give, tick, is_small, fitting, fitting_all, or_refuse, require, refuse_for}
+use Rattle.cic_rules.specs.Environment.{Environment, Context, TypeInBlock, TypeDeclaration, ConstructorDeclaration, constant_type, inductive_type_of, whole_block, constructor_of, type_at, element, assumed, defined}
+use Rattle.cic_rules.specs.Telescopes.{apply, head_of, domains_of, conclusion_of, extend, substitute_all, variables, lift_all, Function, function_types, function_type, full_body}
+use Rattle.cic_counted.specs.Readings.{arguments_of, instantiate, functions_of}
+use Rattle.cic_counted.specs.Outcome.{universe_form, or_refuse, ◌>>=◌, Budget, done, Counted, Cause, unguarded, not_inductive, bad_branch_count, follow, ◌>>◌, give, tick, is_small, fitting, fitting_all, require, refuse_for}
 use Rattle.cic_counted.specs.BlockTests.{is_shaped, index_count}
 use Rattle.cic_counted.specs.GuardTest.{Unguarded, guard_fault}
 use Rattle.cic_counted.specs.Evaluation.{whnf_at, cumul_at, fitting_body}
-use Rattle.cic_counted.specs.Inference.{Calls, Product, as_sort, as_product, expose, type_of_sort, are_branches, is_prop, ends_in_prop, branch_goal, all_propositions, eliminates_constructors, eliminates, check_branches, infer_match, infer_case, sort_each, function_context, check_bodies, infer_fix, infer_step, check_step, sort_step, calls_at}
+use Rattle.cic_counted.specs.Inference.{product_sort, Calls, Product, as_sort, as_product, expose, type_of_sort, are_branches, is_prop, ends_in_prop, branch_goal, all_propositions, eliminates_constructors, eliminates, check_branches, infer_match, infer_case, sort_each, function_context, check_bodies, infer_fix, infer_step, check_step, sort_step, calls_at}
 use Rattle.cic_rules.specs.Typing.{function_entries}
-use Rattle.cic_counted.specs.Done.{Cost, free, ◌then◌, called, Took, AllSmall, Evaluates, Cumulates}
-use Rattle.cic_counted.specs.DoneTyping.{SmallEntries, Infers, infers, Checks, checks, SortOf, sorts_of, Exposes, exposes_itself, exposes_another, HasInferred, infers_variable, infers_prop, infers_set, infers_universe, infers_product, infers_abstraction, infers_let, infers_application, infers_constant, infers_type, infers_constructor, infers_match, infers_fix, Eliminates, eliminates_freely, eliminates_nothing, eliminates_propositions, AllPropositions, no_more, proposition, ChecksBranches, no_branch_left, checks_branch, SortsEach, sorts_none, sorts_one_more, ChecksBodies, no_body_left, checks_body}
+use Rattle.cic_counted.specs.calls.Done.{Cost, free, ◌then◌, called, Took, AllSmall, Evaluates, Cumulates}
+use Rattle.cic_counted.specs.calls.DoneTyping.{SmallEntries, Infers, infers, Checks, checks, SortOf, sorts_of, Exposes, exposes_itself, exposes_another, HasInferred, infers_variable, infers_prop, infers_set, infers_universe, infers_product, infers_abstraction, infers_let, infers_application, infers_constant, infers_type, infers_constructor, infers_match, infers_fix, Eliminates, eliminates_freely, eliminates_nothing, eliminates_propositions, AllPropositions, no_more, proposition, ChecksBranches, no_branch_left, checks_branch, SortsEach, sorts_none, sorts_one_more, ChecksBodies, no_body_left, checks_body}
 use Rattle.cic_counted.proofs.Decided.{both}
 use Rattle.cic_counted.proofs.Taken.{took_free, took_then, follow_done, done_value, done_rest, fitting_done, max_le, whnf_done}
 use Rattle.cic_counted.proofs.TakenConversion.{At, at_free, fitting_all_done, body_done, cumul_done}
@@ -149,6 +150,11 @@ module _ (E : Environment) (k : ℕ) (calls : Calls)
   branches_done G r a ps p [] (child x t ks) u b b' l e = absurd (grind arith)
   branches_done G r a ps p (c ∷ cs) no_child u b b' l e = absurd (grind arith)
 
+  product_given : (G : Context) (x y T : Tree) (s s' : TreeSort) {c d : Cost} {b between b' : Budget} (o : Option TreeSort) → product_sort s s' ≡ o → SortOf E G x s c → SortOf E (assumed x ∷ G) y s' d → (c then d).depth ≤ k → Took (c then d) b between →
+      (or_refuse o (universe_form s s') >>= (λ r. give (sort r))) between ≡ done T b' → At k (HasInferred E G (prod x y) T) b b'
+  product_given G x y T s s' (Some r) q p p' l taken e = given (HasInferred E G (prod x y)) (infers_product p p' q refl refl) l taken e
+  product_given G x y T s s' None q p p' l taken e = absurd (grind arith)
+
   sort_inferred : (G : Context) (s : TreeSort) (T : Tree) (b b' : Budget) → type_of_sort s b ≡ done T b' → At k (HasInferred E G (sort s) T) b b'
   sort_inferred G prop T b b' e = given (HasInferred E G (sort prop)) (infers_prop refl) (omega arith) (took_free b) e
   sort_inferred G set T b b' e = given (HasInferred E G (sort set)) (infers_set refl) (omega arith) (took_free b) e
@@ -242,8 +248,8 @@ module _ (E : Environment) (k : ℕ) (calls : Calls)
       let q4 = context_done 0 G (function_types fs) i4.0 i3.1 i4.1 i4.2 in
       let i5 = follow_done (check_bodies calls i4.0 (length fs) fs i4.1) _ T b' i4.3 in
       let c5 = bodies_checked i4.0 (length fs) fs i5.0 i4.1 i5.1 i5.2 in
-      let i6 = follow_done (refuse_for (option_map (λ fault. unguarded fault.f fault.call) (guard_fault E fs)) i5.1) _ T b' i5.3 in
-      let q6 = none_refused (guard_fault E fs) (λ fault. unguarded fault.f fault.call) i6.0 i5.1 i6.1 i6.2 in
+      let i6 = follow_done (refuse_for (option_map (λ fault. unguarded fault.which fault.call) (guard_fault E fs)) i5.1) _ T b' i5.3 in
+      let q6 = none_refused (guard_fault E fs) (λ fault. unguarded fault.which fault.call) i6.0 i5.1 i6.1 i6.2 in
       let bodies : ChecksBodies E (function_entries 0 G (function_types fs)) (length fs) fs c5.0 = subst (λ z. ChecksBodies E z (length fs) fs c5.0) (sym q4.1) c5.1 in
       given (HasInferred E G (fix which shapes parts)) (infers_fix fs q1.0 q2.0 c3.1 q4.0 bodies q6.0 refl refl) (max_le _ _ k c3.2 c5.2)
       (moved q6.1 (took_then (moved_back (q1.1 ∙ q2.1) c3.3) (moved_back q4.2 c5.3))) i6.3
@@ -259,7 +265,7 @@ module _ (E : Environment) (k : ℕ) (calls : Calls)
       let p = sort_calls G x i.0 b i.1 i.2 in
       let j = follow_done (calls.sort_of (assumed x ∷ G) y i.1) _ T b' i.3 in
       let q = sort_calls (assumed x ∷ G) y j.0 i.1 j.1 j.2 in
-      given (HasInferred E G (prod x y)) (infers_product p.1 q.1 refl refl) (max_le _ _ k p.2 q.2) (took_then p.3 q.3) j.3
+      product_given G x y T i.0 j.0 (product_sort i.0 j.0) refl p.1 q.1 (max_le _ _ k p.2 q.2) (took_then p.3 q.3) j.3
   inferred G (lam x t) T b b' e =
       let i = follow_done (calls.sort_of G x b) _ T b' e in
       let p = sort_calls G x i.0 b i.1 i.2 in
@@ -290,8 +296,8 @@ module _ (E : Environment) (k : ℕ) (calls : Calls)
       let p = or_refuse_done (constant_type E c) _ T b b' e in
       (free, infers_constant p.0, omega arith, moved p.1 (took_free b))
   inferred G (ind c) T b b' e =
-      let p = or_refuse_done (option_map (λ a. a.type) (arity_of E c)) _ T b b' e in
-      let q = option_map_some (λ a. a.type) (arity_of E c) T p.0 in
+      let p = or_refuse_done (option_map (λ a. a.arity) (inductive_type_of E c)) _ T b b' e in
+      let q = option_map_some (λ a. a.arity) (inductive_type_of E c) T p.0 in
       (free, infers_type q.1 q.2, omega arith, moved p.1 (took_free b))
   inferred G (ctor c) T b b' e =
       let p = or_refuse_done (option_map (λ a. a.type) (constructor_of E c)) _ T b b' e in

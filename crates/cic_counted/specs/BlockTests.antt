@@ -3,10 +3,13 @@ use Rattle.std.specs.Prelude.{ℕ, ◌+◌, ◌-◌, Bool, true, false, not, ◌
 use Rattle.std.specs.List.{list_any}
 use Rattle.cic_terms.specs.Tree.{TreeSort, prop, set, typ, own, Former, ConstF, IndF, CtorF, CaseF, Tree, rel, node, Children, no_child, child, sort, prod, ind}
 use Rattle.cic_names.specs.declared.name.GlobalId.{GlobalId}
-use Rattle.cic_rules.specs.Sameness.{same_list, same_tree}
+use Rattle.std.specs.Cmp.Lexicographic.{pointwise}
+use Rattle.cic_counted.specs.Sameness.{same_tree}
 use Rattle.cic_rules.specs.Environment.{Block, TypeDeclaration, ConstructorDeclaration, bare_ids, or_else}
-use Rattle.cic_rules.specs.Telescopes.{is_among, is_type_among, head_of, arguments_of, domains_of, conclusion_of, variables, lift_all}
+use Rattle.cic_rules.specs.Telescopes.{is_among, head_of, domains_of, conclusion_of, variables, lift_all}
 use Rattle.cic_rules.specs.Numbering.{plain_level}
+use Rattle.cic_counted.specs.Readings.{arguments_of}
+use Rattle.cic_counted.specs.Outcome.{next_number}
 
 -- Whether a sort is Prop, Set or Typ of one plain level.
 abbrev pub is_plain_sort : TreeSort → Bool
@@ -20,7 +23,7 @@ is_plain_sort_term (sort s) = is_plain_sort s
 is_plain_sort_term t = false
 
 abbrev pub same_trees : List Tree → List Tree → Bool
-same_trees = same_list same_tree
+same_trees = pointwise same_tree
 
 -- The parameters' domains of a block with r parameters, as its first type has them.
 abbrev pub parameter_domains : (r : ℕ) → List TypeDeclaration → List Tree
@@ -104,6 +107,11 @@ abbrev mutual
 abbrev pub occurs_in_any : List GlobalId → List Tree → Bool
 occurs_in_any ids = list_any (occurs ids)
 
+-- Whether a term is one of these types.
+abbrev pub is_type_among : List GlobalId → Tree → Bool
+is_type_among ids (ind id) = is_among id ids
+is_type_among ids t = false
+
 -- Whether a term is one of these types applied to terms in which none of them occurs.
 abbrev pub is_applied_among : List GlobalId → Tree → Bool
 is_applied_among ids t = is_type_among ids (head_of t) && not (occurs_in_any ids (arguments_of t))
@@ -121,27 +129,28 @@ pub record PositivityFault : Type 0 where
   pub place : ℕ
   pub argument : ℕ
 
-abbrev pub argument_fault : List GlobalId → (argument : ℕ) → List Tree → Option ℕ
-argument_fault ids argument [] = None
-argument_fault ids argument (a ∷ as_) =
-    if is_strictly_positive ids a then argument_fault ids (argument + 1) as_ else Some argument
+abbrev pub argument_fault : (Tree → Bool) → (argument : ℕ) → List Tree → Option ℕ
+argument_fault test argument [] = None
+argument_fault test argument (a ∷ as_) =
+    if test a then argument_fault test (next_number argument) as_ else Some argument
 
 abbrev pub conclusion_fault : List GlobalId → (r : ℕ) → Tree → Option ℕ
 conclusion_fault ids r conclusion = if occurs_in_any ids (drop r (arguments_of conclusion)) then Some 0 else None
 
-abbrev pub constructor_positivity_fault : List GlobalId → (r index place : ℕ) → List ConstructorDeclaration → Option PositivityFault
-constructor_positivity_fault ids r index place [] = None
-constructor_positivity_fault ids r index place (c ∷ cs) =
+abbrev pub constructor_positivity_fault : (Tree → Bool) → List GlobalId → (r index place : ℕ) → List ConstructorDeclaration → Option PositivityFault
+constructor_positivity_fault test ids r index place [] = None
+constructor_positivity_fault test ids r index place (c ∷ cs) =
     or_else
     (option_map (λ argument. record { index = index; place = place; argument = argument })
-    (or_else (argument_fault ids 1 (drop r (domains_of c.type))) (conclusion_fault ids r (conclusion_of c.type))))
-    (constructor_positivity_fault ids r index (place + 1) cs)
+    (or_else (argument_fault test 1 (drop r (domains_of c.type))) (conclusion_fault ids r (conclusion_of c.type))))
+    (constructor_positivity_fault test ids r index (place + 1) cs)
 
-abbrev pub type_positivity_fault : List GlobalId → (r index : ℕ) → List TypeDeclaration → Option PositivityFault
-type_positivity_fault ids r index [] = None
-type_positivity_fault ids r index (t ∷ ts) =
-    or_else (constructor_positivity_fault ids r index 0 t.constructors) (type_positivity_fault ids r (index + 1) ts)
+abbrev pub type_positivity_fault : (Tree → Bool) → List GlobalId → (r index : ℕ) → List TypeDeclaration → Option PositivityFault
+type_positivity_fault test ids r index [] = None
+type_positivity_fault test ids r index (t ∷ ts) =
+    or_else (constructor_positivity_fault test ids r index 0 t.constructors) (type_positivity_fault test ids r (index + 1) ts)
 
--- The first constructor of a block that is not strictly positive.
+-- The first constructor of a block that is not strictly positive, without nested types.
 abbrev pub positivity_fault : Block → Option PositivityFault
-positivity_fault block = type_positivity_fault (bare_ids block.types) block.parameters 0 block.types
+positivity_fault block =
+    type_positivity_fault (is_strictly_positive (bare_ids block.types)) (bare_ids block.types) block.parameters 0 block.types

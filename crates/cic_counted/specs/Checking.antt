@@ -3,10 +3,11 @@
 use Rattle.std.specs.Prelude.{ℕ, ◌-◌, if◌then◌else◌, Option, Some, None, option_map, option_and_then, List, [], ◌∷◌, ◌++◌, take, drop}
 use Rattle.cic_terms.specs.Tree.{TreeSort, Tree, sort}
 use Rattle.cic_names.specs.declared.name.GlobalId.{GlobalId}
-use Rattle.cic_rules.specs.Constraints.{Constraint}
+use Rattle.cic_names.specs.declared.constraint.Constraint.{Constraint}
 use Rattle.cic_rules.specs.Environment.{Environment, Context, Declaration, axiom_of, transparent, opaque, inductive, Block, TypeDeclaration, ConstructorDeclaration, bare, assumed, element}
 use Rattle.cic_rules.specs.Telescopes.{domains_of, conclusion_of, extend}
-use Rattle.cic_counted.specs.BlockTests.{ShapeFault, bad_arity_at, bad_constructor_at, shape_fault, PositivityFault, positivity_fault}
+use Rattle.cic_counted.specs.BlockTests.{ShapeFault, bad_arity_at, bad_constructor_at, shape_fault, PositivityFault}
+use Rattle.cic_counted.specs.NestedTest.{nested_fault}
 use Rattle.cic_counted.specs.Outcome.{Counted, Outcome, done, stops, Stopped, Cause, bad_arity, bad_constructor, not_positive, ◌>>=◌, ◌>>◌, give, or_refuse, refuse_for}
 use Rattle.cic_counted.specs.Evaluation.{sorts_at_most}
 use Rattle.cic_counted.specs.Inference.{Calls, calls_from, is_prop}
@@ -93,36 +94,43 @@ check_types calls r (t ∷ ts) = do
   check_constructors calls r (ending_sort (conclusion_of t.arity)) t.constructors
   check_types calls r ts
 
--- A block: its shape, its arities, its positivity, and its constructors over its types taken bare.
-abbrev pub check_block : Environment → Block → Counted (Unit {0})
-check_block E block = do
+-- A block: its shape, its arities, its positivity, and its constructors over its types taken bare. `calls` are
+-- the counted functions of typing over an environment.
+abbrev pub check_block_by : (calls : Environment → Calls) → Environment → Block → Counted (Unit {0})
+check_block_by calls E block = do
   refuse_for (option_and_then (shape_cause block) (shape_fault block))
-  check_arities (calls_from 1 E) block.types
-  refuse_for (option_and_then (positivity_cause block) (positivity_fault block))
-  check_types (calls_from 1 (E ++ bare block ∷ [])) block.parameters block.types
+  check_arities (calls E) block.types
+  refuse_for (option_and_then (positivity_cause block) (nested_fault E block))
+  check_types (calls (E ++ bare block ∷ [])) block.parameters block.types
 
 -- A declaration over the earlier ones: a type has a sort, and a body has its type. The constraints of
 -- an opaque body are kept apart from the others.
-abbrev pub judge : Environment → Declaration → Counted Split
-judge E (axiom_of id type) = do
-  (calls_from 1 E).sort_of [] type
+abbrev pub judge_by : (calls : Environment → Calls) → Environment → Declaration → Counted Split
+judge_by calls E (axiom_of id type) = do
+  (calls E).sort_of [] type
   all_visible
-judge E (transparent id type body) = do
-  (calls_from 1 E).sort_of [] type
-  (calls_from 1 E).check [] body type
+judge_by calls E (transparent id type body) = do
+  (calls E).sort_of [] type
+  (calls E).check [] body type
   all_visible
-judge E (opaque id type None) = do
-  (calls_from 1 E).sort_of [] type
+judge_by calls E (opaque id type None) = do
+  (calls E).sort_of [] type
   all_visible
-judge E (opaque id type (Some body)) = do
-  (calls_from 1 E).sort_of [] type
+judge_by calls E (opaque id type (Some body)) = do
+  (calls E).sort_of [] type
   visible ← take_found
-  (calls_from 1 E).check [] body type
+  (calls E).check [] body type
   proofs ← take_found
   give (record { visible = visible; proofs = proofs })
-judge E (inductive block) = do
-  check_block E block
+judge_by calls E (inductive block) = do
+  check_block_by calls E block
   all_visible
+
+abbrev pub check_block : Environment → Block → Counted (Unit {0})
+check_block = check_block_by (calls_from 1)
+
+abbrev pub judge : Environment → Declaration → Counted Split
+judge = judge_by (calls_from 1)
 
 abbrev pub answer_of : (budget : ℕ) → Outcome Split → Answer
 answer_of budget (done split b) =

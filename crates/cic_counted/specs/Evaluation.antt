@@ -8,10 +8,12 @@ use Rattle.cic_terms.specs.Lift.{lift_tree, subst_tree}
 use Rattle.cic_names.specs.declared.name.GlobalId.{GlobalId}
 use Rattle.cic_names.specs.declared.level.Level.{Level}
 use Rattle.cic_names.specs.declared.level.Atom.{Atom}
-use Rattle.cic_rules.specs.Sameness.{same_id, same_atoms, same_sort, same_shapes, same_former, same_binders, same_tree}
+use Rattle.cic_names.specs.Sameness.{same_id, same_atoms}
+use Rattle.cic_counted.specs.Sameness.{same_sort, same_shapes, same_former, same_binders, same_tree}
 use Rattle.cic_rules.specs.Environment.{Environment, Context, Constructor, transparent_body, constructor_of, body_at, element, unknown, under_unknown}
 use Rattle.cic_rules.specs.Numbering.{plain_level}
-use Rattle.cic_rules.specs.Telescopes.{apply, head_of, arguments_of, abstractions, substitute_all, lift_domains, BranchParts, branch_at, Function, functions_of, function_types, unfolded}
+use Rattle.cic_rules.specs.Telescopes.{apply, head_of, abstractions, substitute_all, lift_domains, BranchParts, branch_at, Function, function_types, unfolded}
+use Rattle.cic_counted.specs.Readings.{arguments_of, functions_of}
 use Rattle.cic_counted.specs.Outcome.{Counted, mismatch, universe_form, spent, deep, ◌>>=◌, ◌>>◌, give, stop, refuse, tick, note, fitting, fitting_all}
 
 -- After a turn of the loop: the answer, or the term to go on with.
@@ -47,7 +49,7 @@ is_constructor t = false
 -- one, with the Fixes put in for the functions: what it unfolds to.
 abbrev pub unfolded_at : ℕ → List Function → Option Function → Option Tree
 unfolded_at count fs None = None
-unfolded_at count fs (Some f) = if nat_eq count f.k then Some (unfolded fs f) else None
+unfolded_at count fs (Some f) = if nat_eq count f.recursive_place then Some (unfolded fs f) else None
 
 abbrev pub unfolds : ℕ → Tree → Option Tree
 unfolds count (fix which shapes parts) =
@@ -222,19 +224,38 @@ compare_nodes conv G f g ks ls =
     then convert_children conv G ks ls
     else differ G (node f ks) (node g ls)
 
--- Two terms in weak head form.
+-- Two terms in weak head form, by their formers.
 abbrev pub compare : (Context → Tree → Tree → Counted (Unit {0})) → Context → Tree → Tree → Counted (Unit {0})
 compare conv G (sort s) (sort s') = equal_sorts G s s'
 compare conv G (rel x) (rel y) = if nat_eq x y then give tt else differ G (rel x) (rel y)
 compare conv G (node f ks) (node g ls) = compare_nodes conv G f g ks ls
 compare conv G a b = differ G a b
 
+-- The body of an abstraction.
+abbrev pub body_of : Tree → Option Tree
+body_of (lam a t) = Some t
+body_of t = None
+
+-- Two terms in weak head form, by eta for functions where one of them alone is an abstraction: its body
+-- and the other, lifted and applied to the variable.
+abbrev pub by_bodies : (Context → Tree → Tree → Counted (Unit {0})) → Context → Tree → Tree → Option Tree → Option Tree → Counted (Unit {0})
+by_bodies conv G v w (Some t) None = do
+  w' ← fitting (lift_tree 0 1 w)
+  conv (unknown ∷ G) t (app w' (rel 0))
+by_bodies conv G v w None (Some t) = do
+  v' ← fitting (lift_tree 0 1 v)
+  conv (unknown ∷ G) (app v' (rel 0)) t
+by_bodies conv G v w _ _ = compare conv G v w
+
+abbrev pub compare_heads : (Context → Tree → Tree → Counted (Unit {0})) → Context → Tree → Tree → Counted (Unit {0})
+compare_heads conv G v w = by_bodies conv G v w (body_of v) (body_of w)
+
 abbrev pub conv_step : (Context → Tree → Counted Tree) → (Context → Tree → Tree → Counted (Unit {0})) → Context → Tree → Tree → Counted (Unit {0})
 conv_step whnf conv G a b =
     if same_tree a b then give tt else do
       v ← whnf G a
       w ← whnf G b
-      compare conv G v w
+      compare_heads conv G v w
 
 unfoldable pub conv_at : ℕ → Environment → Context → Tree → Tree → Counted (Unit {0})
 conv_at zero E G a b = stop deep
@@ -248,7 +269,7 @@ below_or_equal conv cumul G (prod a b) (prod c d) = do
   conv G a c
   cumul (unknown ∷ G) b d
 below_or_equal conv cumul G (sort s) (sort s') = sorts_at_most G s s'
-below_or_equal conv cumul G a b = compare conv G a b
+below_or_equal conv cumul G a b = compare_heads conv G a b
 
 abbrev pub cumul_step : (Context → Tree → Counted Tree) → (Context → Tree → Tree → Counted (Unit {0})) → (Context → Tree → Tree → Counted (Unit {0})) → Context → Tree → Tree → Counted (Unit {0})
 cumul_step whnf conv cumul G a b =

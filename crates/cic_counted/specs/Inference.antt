@@ -1,7 +1,7 @@
 -- The counted functions of typing: inference, check against a type, and the sort of a type (this
 -- project's own; the rules that they follow are those of the Coq Reference Manual, "Typing rules" and
 -- "Inductive definitions").
-use Rattle.std.specs.Prelude.{ℕ, zero, suc, ◌+◌, ◌-◌, Bool, true, false, not, ◌&&◌, ◌||◌, nat_eq, if◌then◌else◌, option_map, List, [], ◌∷◌, ◌++◌, length, take, drop}
+use Rattle.std.specs.Prelude.{ℕ, zero, suc, ◌+◌, ◌-◌, Bool, true, false, not, ◌&&◌, ◌||◌, nat_eq, if◌then◌else◌, Option, Some, None, option_map, List, [], ◌∷◌, ◌++◌, length, take, drop}
 use Rattle.std.specs.List.{list_any}
 use Rattle.cic_terms.specs.Tree.{TreeSort, prop, set, typ, own, Shape, over, Tree, rel, Children, no_child, child, sort, prod, lam, let_in, app, const, ind, ctor, case, fix}
 use Rattle.cic_terms.specs.Lift.{lift_tree, subst_tree}
@@ -9,9 +9,11 @@ use Rattle.cic_names.specs.declared.name.GlobalId.{GlobalId}
 use Rattle.cic_names.specs.declared.level.Level.{Level}
 use Rattle.cic_names.specs.declared.level.Level.TheVariants.{Set}
 use Rattle.cic_names.specs.declared.level.Atom.{Atom}
-use Rattle.cic_rules.specs.Sameness.{same_atom, same_tree}
-use Rattle.cic_rules.specs.Environment.{Environment, Context, TypeDeclaration, ConstructorDeclaration, constant_type, arity_of, whole_block, constructor_of, type_at, element, assumed, defined}
-use Rattle.cic_rules.specs.Telescopes.{apply, head_of, arguments_of, domains_of, conclusion_of, extend, substitute_all, variables, lift_all, instantiate, Function, functions_of, function_types, function_type}
+use Rattle.cic_names.specs.Sameness.{same_atom}
+use Rattle.cic_counted.specs.Sameness.{same_tree}
+use Rattle.cic_rules.specs.Environment.{Environment, Context, TypeDeclaration, ConstructorDeclaration, constant_type, inductive_type_of, whole_block, constructor_of, type_at, element, assumed, defined}
+use Rattle.cic_rules.specs.Telescopes.{apply, head_of, domains_of, conclusion_of, extend, substitute_all, variables, lift_all, Function, function_types, function_type}
+use Rattle.cic_counted.specs.Readings.{arguments_of, instantiate, functions_of}
 use Rattle.cic_counted.specs.BlockTests.{is_shaped, index_count}
 use Rattle.cic_counted.specs.GuardTest.{guard_fault}
 use Rattle.cic_counted.specs.Outcome.{Counted, global, local, unbound, not_function, not_sort, not_inductive, bad_elimination, bad_branch_count, universe_form, unguarded, deep, ◌>>=◌, ◌>>◌, give, stop, refuse, or_refuse, require, refuse_for, tick, fitting, fitting_all}
@@ -62,14 +64,15 @@ abbrev pub add_atoms : (before : List Atom) → List Atom → List Atom
 add_atoms before [] = before
 add_atoms before (a ∷ as_) = add_atoms (if list_any (same_atom a) before then before else before ++ a ∷ []) as_
 
--- The sort of a product, from those of its domain and its codomain.
-abbrev pub product_sort : (domain codomain : TreeSort) → TreeSort
-product_sort s prop = prop
-product_sort prop s' = s'
-product_sort set s' = s'
-product_sort s set = s
-product_sort (typ e) (typ e') = typ (add_atoms [] (e ++ e'))
-product_sort s s' = s'
+-- The sort of a product, from those of its domain and its codomain. A universe of a derivation's own has no
+-- level, so with another universe it has none.
+abbrev pub product_sort : (domain codomain : TreeSort) → Option TreeSort
+product_sort s prop = Some prop
+product_sort prop s' = Some s'
+product_sort set s' = Some s'
+product_sort s set = Some s
+product_sort (typ e) (typ e') = Some (typ (add_atoms [] (e ++ e')))
+product_sort s s' = None
 
 -- Whether the branches are one for each constructor, in order, each under as many binders as the
 -- constructor has arguments.
@@ -183,7 +186,7 @@ infer_fix calls E G which shapes parts = do
   sort_each calls G (function_types fs)
   G' ← function_context 0 G (function_types fs)
   check_bodies calls G' (length fs) fs
-  refuse_for (option_map (λ fault. unguarded fault.f fault.call) (guard_fault E fs))
+  refuse_for (option_map (λ fault. unguarded fault.which fault.call) (guard_fault E fs))
   give (function_type f)
 
 abbrev pub infer_step : (Context → Tree → Counted Tree) → Calls → Environment → Context → Tree → Counted Tree
@@ -194,7 +197,8 @@ infer_step whnf calls E G (sort s) = type_of_sort s
 infer_step whnf calls E G (prod a b) = do
   s ← calls.sort_of G a
   s' ← calls.sort_of (assumed a ∷ G) b
-  give (sort (product_sort s s'))
+  s'' ← or_refuse (product_sort s s') (universe_form s s')
+  give (sort s'')
 infer_step whnf calls E G (lam a t) = do
   calls.sort_of G a
   b ← calls.infer (assumed a ∷ G) t
@@ -211,7 +215,7 @@ infer_step whnf calls E G (app f u) = do
   calls.check G u P.domain
   fitting (subst_tree 0 u P.codomain)
 infer_step whnf calls E G (const c) = or_refuse (constant_type E c) (unbound (global c))
-infer_step whnf calls E G (ind c) = or_refuse (option_map (λ a. a.type) (arity_of E c)) (unbound (global c))
+infer_step whnf calls E G (ind c) = or_refuse (option_map (λ a. a.arity) (inductive_type_of E c)) (unbound (global c))
 infer_step whnf calls E G (ctor c) = or_refuse (option_map (λ k. k.type) (constructor_of E c)) (unbound (global c))
 infer_step whnf calls E G (case id n p c branches) = infer_case (whnf G) calls E G id n p c branches
 infer_step whnf calls E G (fix which shapes parts) = infer_fix calls E G which shapes parts
@@ -228,17 +232,24 @@ sort_step whnf calls G T = do
   V ← whnf G S
   as_sort G V
 
-unfoldable pub calls_at : ℕ → Environment → Calls
-calls_at zero E = record {
+-- No call is left that may be deeper; and the calls over evaluation, subtyping and the calls one deeper.
+abbrev pub too_deep : Calls
+too_deep = record {
   infer = λ G t. stop deep;
   check = λ G t T. stop deep;
   sort_of = λ G T. stop deep;
 }
-calls_at (suc k) E = record {
-  infer = λ G t. tick >>= λ _. infer_step (whnf_at k E) (calls_at k E) E G t;
-  check = λ G t T. tick >>= λ _. check_step (cumul_at k E) (calls_at k E) G t T;
-  sort_of = λ G T. tick >>= λ _. sort_step (whnf_at k E) (calls_at k E) G T;
+
+abbrev pub calls_over : (whnf : Context → Tree → Counted Tree) → (cumul : Context → Tree → Tree → Counted (Unit {0})) → Calls → Environment → Calls
+calls_over whnf cumul calls E = record {
+  infer = λ G t. tick >>= λ _. infer_step whnf calls E G t;
+  check = λ G t T. tick >>= λ _. check_step cumul calls G t T;
+  sort_of = λ G T. tick >>= λ _. sort_step whnf calls G T;
 }
+
+unfoldable pub calls_at : ℕ → Environment → Calls
+calls_at zero E = too_deep
+calls_at (suc k) E = calls_over (whnf_at k E) (cumul_at k E) (calls_at k E) E
 
 -- The counted functions by the depth of the call, which is at most 2,001.
 unfoldable pub calls_from : ℕ → Environment → Calls

@@ -1,10 +1,12 @@
 -- The counted functions, the check of one declaration, and what they cost.
+pub mod Sameness
+pub mod Readings
 pub mod Outcome
 pub mod Evaluation
+pub mod PlainPositivity
 pub mod BlockTests
+pub mod NestedTest
 pub mod GuardTest
 pub mod Inference
-pub mod Done
-pub mod DoneTyping
 pub mod Checking
-pub mod Examples
+pub mod calls

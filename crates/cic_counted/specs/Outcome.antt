@@ -1,10 +1,11 @@
 -- What a counted call answers, and how counted calls follow one another (this project's own: the
 -- checker counts its calls and its reduction steps against a budget).
-use Rattle.std.specs.Prelude.{true, false, Option, Some, None, ℕ, zero, suc, Bool, if◌then◌else◌, nat_le, ◌&&◌, List, [], ◌∷◌}
+use Rattle.std.specs.Prelude.{◌+◌, min, true, false, Option, Some, None, ℕ, zero, suc, Bool, if◌then◌else◌, nat_le, ◌&&◌, List, [], ◌∷◌}
 use Rattle.cic_terms.specs.Tree.{TreeSort, Tree}
 use Rattle.cic_terms.specs.Sizes.{depth_tree, max_rel}
 use Rattle.cic_names.specs.declared.name.GlobalId.{GlobalId}
-use Rattle.cic_rules.specs.Constraints.{Constraint, insert}
+use Rattle.cic_names.specs.declared.constraint.Constraint.{Constraint}
+use Rattle.cic_names.specs.Orders.{insert_constraint}
 
 -- What is missing: a declaration, or variable `k` of the context.
 pub data Missing : Type 0 where
@@ -45,6 +46,10 @@ pub data Outcome (A : Type 0) : Type 0 where
 -- A counted call: its outcome from what is left before it.
 abbrev pub Counted : Type 0 → Type 0
 Counted A = Budget → Outcome A
+
+-- The number of an argument, and of a call, after that of another. It stands still at 2^32 - 1.
+abbrev pub next_number : ℕ → ℕ
+next_number n = min (n + 1) 4294967295
 
 -- One after the other: the first stop ends everything.
 abbrev pub follow : {A B : Type 0} → Outcome A → (A → Counted B) → Outcome B
@@ -92,7 +97,7 @@ tick b = spend b.rest b.found
 
 -- Finds a constraint.
 abbrev pub note : Constraint → Counted (Unit {0})
-note c = λ b. done tt (record { rest = b.rest; found = insert c b.found })
+note c = λ b. done tt (record { rest = b.rest; found = insert_constraint b.found c })
 
 -- Whether a term is within the limits: its depth at most 4,000, its Rel numbers at most 2^20.
 abbrev pub is_small : Tree → Bool

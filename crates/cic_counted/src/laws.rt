@@ -3,22 +3,24 @@ ghost use Rattle.cic_terms.specs.Tree.{TreeSort, prop, set, typ, Tree, sort, pro
 ghost use Rattle.cic_names.specs.declared.name.GlobalId.{GlobalId};
 ghost use Rattle.cic_names.specs.declared.level.LevelName.{LevelName};
 ghost use Rattle.cic_names.specs.declared.level.Level.TheVariants as Level;
-ghost use Rattle.cic_rules.specs.Sameness.{same_tree};
+ghost use Rattle.cic_counted.specs.Sameness.{same_tree};
 ghost use Rattle.cic_rules.specs.Numbering.{Numbering, IsNumbering, Meets, MeetsAll, sort_number};
 ghost use Rattle.cic_rules.specs.Environment.{Environment, Context, TypeDeclaration, ConstructorDeclaration, opaque, declared};
-ghost use Rattle.cic_rules.specs.Telescopes.{Function, fixpoint, function_parts, function_shapes, functions_of, products};
-ghost use Rattle.cic_rules.specs.Constraints.{Constraint, insert};
+ghost use Rattle.cic_rules.specs.Telescopes.{Function, fixpoint, function_parts, function_shapes, products};
+ghost use Rattle.cic_names.specs.declared.constraint.Constraint.{Constraint};
+ghost use Rattle.cic_names.specs.Orders.{insert_constraint};
 ghost use Rattle.cic_rules.specs.Step.{Step};
 ghost use Rattle.cic_rules.specs.Conversion.{Convertible, AtMost};
-ghost use Rattle.cic_rules.specs.Inductive.{PositiveBlock};
+ghost use Rattle.cic_counted.specs.Readings.{functions_of};
+ghost use Rattle.cic_counted.specs.PlainPositivity.{PositiveBlock};
 ghost use Rattle.cic_rules.specs.Guard.{Guarded};
 ghost use Rattle.cic_counted.specs.Outcome.{Budget, done};
 ghost use Rattle.cic_counted.specs.Evaluation.{conv_at, cumul_at, whnf_at};
-ghost use Rattle.cic_counted.specs.Done.{left_after, Converted, Converts, Cost, Cumulated, Cumulates, Evaluated, Evaluates};
-ghost use Rattle.cic_counted.specs.DoneTyping.{Checked, Checks, Inferred, Infers, SortOf, Sorted};
+ghost use Rattle.cic_counted.specs.calls.Done.{left_after, Converted, Converts, Cost, Cumulated, Cumulates, Evaluated, Evaluates};
+ghost use Rattle.cic_counted.specs.calls.DoneTyping.{Checked, Checks, Inferred, Infers, SortOf, Sorted};
 ghost use Rattle.cic_counted.specs.Inference.{calls_at};
 ghost use Rattle.cic_rules.specs.Typing.{Derivation, Eliminated};
-ghost use Rattle.cic_counted.specs.Examples.{bad_block, f_function, N, nat, with_N, zero_function};
+ghost use Rattle.cic_counted.specs.calls.Examples.{bad_block, f_function, N, nat, with_N, zero_function};
 
 /// Sorts with different numbers are not convertible; so two universes with different numbers are not.
 pub fn convertible_sorts_have_one_number()
@@ -91,7 +93,7 @@ pub fn typing_has_its_cost()
 
 /// A numbering meets a set with one more constraint where it meets the set and the constraint.
 pub fn insertion_keeps_all()
-    ensures { (N : Numbering) (c : Constraint) (K : List Constraint) → MeetsAll N (insert c K) ↔ (Meets N c × MeetsAll N K) }
+    ensures { (N : Numbering) (c : Constraint) (K : List Constraint) → MeetsAll N (insert_constraint K c) ↔ (Meets N c × MeetsAll N K) }
 {}
 
 /// Where the relation holds, evaluation is done at every budget and depth that suffice.

@@ -7,13 +7,16 @@ use Rattle.cic_terms.specs.Lift.{lift_tree, subst_tree}
 use Rattle.cic_names.specs.declared.name.GlobalId.{GlobalId}
 use Rattle.cic_names.specs.declared.level.Level.{Level}
 use Rattle.cic_names.specs.declared.level.Atom.{Atom}
-use Rattle.cic_rules.specs.Sameness.{same_id, same_atoms, same_sort, same_shapes, same_former, same_tree}
-use Rattle.cic_rules.specs.Constraints.{Constraint, insert}
+use Rattle.cic_names.specs.Sameness.{same_id, same_atoms}
+use Rattle.cic_counted.specs.Sameness.{same_sort, same_shapes, same_former, same_tree}
+use Rattle.cic_names.specs.declared.constraint.Constraint.{Constraint}
+use Rattle.cic_names.specs.Orders.{insert_constraints}
 use Rattle.cic_rules.specs.Numbering.{plain_level}
 use Rattle.cic_rules.specs.Environment.{Environment, Context, transparent_body, body_at, unknown, under_unknown}
-use Rattle.cic_rules.specs.Telescopes.{apply, head_of, arguments_of, lift_domains, Function, functions_of, function_types, full_body}
+use Rattle.cic_rules.specs.Telescopes.{apply, head_of, lift_domains, Function, function_types, full_body}
+use Rattle.cic_counted.specs.Readings.{arguments_of, functions_of}
 use Rattle.cic_counted.specs.Outcome.{Budget, is_small}
-use Rattle.cic_counted.specs.Evaluation.{is_constructor, unfolds, matched, same_places, value_first}
+use Rattle.cic_counted.specs.Evaluation.{is_constructor, unfolds, matched, same_places, value_first, body_of}
 
 -- What a call takes: its steps, the calls that are open at once, itself among them, and the constraints
 -- that it finds, in order.
@@ -39,19 +42,14 @@ stepped c = record { steps = c.steps + 1; depth = c.depth; found = c.found }
 abbrev pub finds : Constraint → Cost
 finds c = record { steps = 0; depth = 0; found = c ∷ [] }
 
--- Constraints put into a set, one after the other.
-abbrev pub insert_all : List Constraint → List Constraint → List Constraint
-insert_all found [] = found
-insert_all found (c ∷ cs) = insert_all (insert c found) cs
-
 -- What a call that is done has taken.
 pub record Took (c : Cost) (b b' : Budget) : Type 0 where
   pub rest : b.rest ≡ c.steps + b'.rest
-  pub found : b'.found ≡ insert_all b.found c.found
+  pub found : b'.found ≡ insert_constraints b.found c.found
 
 -- What is left after a cost.
 abbrev pub left_after : Cost → Budget → Budget
-left_after c b = record { rest = b.rest - c.steps; found = insert_all b.found c.found }
+left_after c b = record { rest = b.rest - c.steps; found = insert_constraints b.found c.found }
 
 -- Each of several terms is within the limits.
 abbrev pub AllSmall : List Tree → Type 0
@@ -60,13 +58,13 @@ AllSmall (t ∷ ts) = (is_small t ≡ true) × AllSmall ts
 
 -- Terms at which evaluation stops at once: all but variables, constants, local definitions, applications
 -- and matches.
-abbrev pub Stays : Tree → Type 0
-Stays (rel x) = ⊥
-Stays (const c) = ⊥
-Stays (let_in t a u) = ⊥
-Stays (app f u) = ⊥
-Stays (case id n p v branches) = ⊥
-Stays t = Unit {0}
+abbrev pub NeedsNoEvaluation : Tree → Type 0
+NeedsNoEvaluation (rel x) = ⊥
+NeedsNoEvaluation (const c) = ⊥
+NeedsNoEvaluation (let_in t a u) = ⊥
+NeedsNoEvaluation (app f u) = ⊥
+NeedsNoEvaluation (case id n p v branches) = ⊥
+NeedsNoEvaluation t = Unit {0}
 
 abbrev pub IsAbstraction : Tree → Type 0
 IsAbstraction (lam a b) = Unit {0}
@@ -81,8 +79,8 @@ mutual
         Evaluates E G t v k
 
   pub data Reduces (E : Environment) (G : Context) : Tree → Tree → Cost → Type 0 where
-    stays : {t : Tree} →
-        Stays t →
+    needs_no_evaluation : {t : Tree} →
+        NeedsNoEvaluation t →
         Reduces E G t t free
     variable_stays : {x : ℕ} →
         body_at G x ≡ None →
@@ -240,6 +238,18 @@ mutual
         ConvertsBodies E (under_unknown (length fs) G) (length fs) fs gs d →
         k ≡ (c then d) →
         Compares E G (node (FixF i shapes) ks) (node (FixF j shapes') ls) k
+    expands_left : {G : Context} {v w t : Tree} {c : Cost} →
+        body_of v ≡ Some t →
+        body_of w ≡ None →
+        is_small (lift_tree 0 1 w) ≡ true →
+        Converts E (unknown ∷ G) t (app (lift_tree 0 1 w) (rel 0)) c →
+        Compares E G v w c
+    expands_right : {G : Context} {v w t : Tree} {c : Cost} →
+        body_of v ≡ None →
+        body_of w ≡ Some t →
+        is_small (lift_tree 0 1 v) ≡ true →
+        Converts E (unknown ∷ G) (app (lift_tree 0 1 v) (rel 0)) t c →
+        Compares E G v w c
 
   pub data ConvertsParts (E : Environment) : Context → Children → Children → Cost → Type 0 where
     converts_no_part : {G : Context} →
@@ -295,8 +305,8 @@ mutual
         SortsBelow s s' c →
         Below E G (sort s) (sort s') c
     compared : {G : Context} {a b : Tree} {c : Cost} →
-        ((s : TreeSort) → a ≢ sort s) →
-        ((x y : Tree) → a ≢ prod x y) →
+        ((s s' : TreeSort) → a ≡ sort s → b ≢ sort s') →
+        ((x y x' y' : Tree) → a ≡ prod x y → b ≢ prod x' y') →
         Compares E G a b c →
         Below E G a b c
 

@@ -7,16 +7,17 @@ use Rattle.cic_names.specs.declared.name.GlobalId.{GlobalId}
 use Rattle.cic_names.specs.declared.level.Level.{Level}
 use Rattle.cic_names.specs.declared.level.Level.TheVariants.{Set}
 use Rattle.cic_names.specs.declared.level.Atom.{Atom}
-use Rattle.cic_rules.specs.Sameness.{same_tree}
+use Rattle.cic_counted.specs.Sameness.{same_tree}
 use Rattle.cic_rules.specs.Numbering.{plain_level}
-use Rattle.cic_rules.specs.Environment.{Environment, Context, Arity, TypeInBlock, TypeDeclaration, ConstructorDeclaration, Constructor, constant_type, arity_of, whole_block, constructor_of, type_at, element, assumed, defined}
-use Rattle.cic_rules.specs.Telescopes.{apply, head_of, arguments_of, domains_of, conclusion_of, extend, substitute_all, variables, lift_all, lift_domains, instantiate, Function, functions_of, function_types, function_type, full_body}
+use Rattle.cic_rules.specs.Environment.{Environment, Context, InductiveType, TypeInBlock, TypeDeclaration, ConstructorDeclaration, Constructor, constant_type, inductive_type_of, whole_block, constructor_of, type_at, element, assumed, defined}
+use Rattle.cic_rules.specs.Telescopes.{apply, head_of, domains_of, conclusion_of, extend, substitute_all, variables, lift_all, lift_domains, Function, function_types, function_type, full_body}
+use Rattle.cic_counted.specs.Readings.{arguments_of, instantiate, functions_of}
 use Rattle.cic_counted.specs.Outcome.{Budget, is_small}
 use Rattle.cic_counted.specs.BlockTests.{is_shaped, index_count}
 use Rattle.cic_counted.specs.GuardTest.{guard_fault}
 use Rattle.cic_counted.specs.Inference.{next_level, product_sort, are_branches, is_prop, ends_in_prop, branch_goal}
 use Rattle.cic_rules.specs.Typing.{function_entries}
-use Rattle.cic_counted.specs.Done.{Took, Cost, free, ◌then◌, called, AllSmall, Evaluates, Cumulates}
+use Rattle.cic_counted.specs.calls.Done.{Took, Cost, free, ◌then◌, called, AllSmall, Evaluates, Cumulates}
 
 -- The types of a Fix, lifted to stand under the functions before their own, are within the limits.
 abbrev pub SmallEntries : (before : ℕ) → List Tree → Type 0
@@ -74,10 +75,11 @@ mutual
         plain_level e ≡ Some l →
         T ≡ sort (next_level l) →
         HasInferred E G (sort (typ e)) T free
-    infers_product : {G : Context} {a b T : Tree} {s s' : TreeSort} {c d k : Cost} →
+    infers_product : {G : Context} {a b T : Tree} {s s' r : TreeSort} {c d k : Cost} →
         SortOf E G a s c →
         SortOf E (assumed a ∷ G) b s' d →
-        T ≡ sort (product_sort s s') →
+        product_sort s s' ≡ Some r →
+        T ≡ sort r →
         k ≡ (c then d) →
         HasInferred E G (prod a b) T k
     infers_abstraction : {G : Context} {a b t T : Tree} {s : TreeSort} {c d k : Cost} →
@@ -105,9 +107,9 @@ mutual
     infers_constant : {G : Context} {id : GlobalId} {T : Tree} →
         constant_type E id ≡ Some T →
         HasInferred E G (const id) T free
-    infers_type : {G : Context} {id : GlobalId} {a : Arity} {T : Tree} →
-        arity_of E id ≡ Some a →
-        T ≡ a.type →
+    infers_type : {G : Context} {id : GlobalId} {a : InductiveType} {T : Tree} →
+        inductive_type_of E id ≡ Some a →
+        T ≡ a.arity →
         HasInferred E G (ind id) T free
     infers_constructor : {G : Context} {id : GlobalId} {K : Constructor} {T : Tree} →
         constructor_of E id ≡ Some K →

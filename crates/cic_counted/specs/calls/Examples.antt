@@ -5,11 +5,11 @@ use Rattle.cic_names.specs.declared.name.GlobalId.{GlobalId}
 use Rattle.cic_names.specs.declared.level.Part.TheVariants.{Declared, Visible}
 use Rattle.cic_names.specs.declared.level.Level.{Level}
 use Rattle.cic_names.specs.declared.level.Level.TheVariants.{Named}
-use Rattle.cic_rules.specs.Constraints.{Constraint}
-use Rattle.cic_rules.specs.Environment.{Environment, Declaration, axiom_of, transparent, opaque, inductive, Block, TypeDeclaration, ConstructorDeclaration, declared}
+use Rattle.cic_names.specs.declared.constraint.Constraint.{Constraint}
+use Rattle.cic_rules.specs.Environment.{Environment, Declaration, axiom_of, transparent, opaque, inductive, Block, TypeDeclaration, ConstructorDeclaration, declared, assumed}
 use Rattle.cic_rules.specs.Telescopes.{apply, Function, fixpoint}
 use Rattle.cic_counted.specs.Outcome.{Outcome, done, refused, Cause}
-use Rattle.cic_counted.specs.Evaluation.{whnf_from}
+use Rattle.cic_counted.specs.Evaluation.{whnf_from, conv_from}
 use Rattle.cic_counted.specs.Checking.{Answer, accepts, rejects}
 
 -- An id of library A.
@@ -86,7 +86,7 @@ match_nat motive value zero successor =
 
 -- Inductive eq (A : Type) (x : A) : A -> Prop := eq_refl : eq A x x.
 abbrev pub eq_level : Level
-eq_level = Named (record { lib = codes "A"; owner = codes "eq"; part = Visible; number = 0 })
+eq_level = Named (record { lib = codes "A"; owner = codes "eq"; part = Visible 0 })
 
 abbrev pub eq_type : Tree
 eq_type = sort (typ (record { level = eq_level; plus = false } ∷ []))
@@ -107,7 +107,7 @@ eq_block = record {
 -- plus (n m : nat) {struct n} : nat := match n return nat with O => m | S p => S (plus p m) end
 abbrev pub plus_function : Function
 plus_function = record {
-  k = 0;
+  recursive_place = 0;
   domains = nat ∷ nat ∷ [];
   codomain = nat;
   body = match_nat nat (rel 1) (rel 0) (S (apply (rel 3) (rel 0 ∷ rel 1 ∷ [])));
@@ -131,7 +131,7 @@ definition_two = transparent (id_of (codes "two")) (eq nat (plus (S O) (S O)) (S
 --            | eq_refl _ _ => eq_refl nat (S (plus p O)) end end
 abbrev pub plus_n_O_function : Function
 plus_n_O_function = record {
-  k = 0;
+  recursive_place = 0;
   domains = nat ∷ [];
   codomain = eq nat (plus (rel 0) O) (rel 0);
   body = match_nat (eq nat (plus (rel 0) O) (rel 0)) (rel 0)
@@ -152,7 +152,7 @@ arithmetic = environment (inductive nat_block ∷ inductive eq_block ∷ definit
 
 -- Fixpoint f (n : nat) {struct n} : nat := f n.
 abbrev pub f_function : Function
-f_function = record { k = 0; domains = nat ∷ []; codomain = nat; body = app (rel 1) (rel 0) }
+f_function = record { recursive_place = 0; domains = nat ∷ []; codomain = nat; body = app (rel 1) (rel 0) }
 
 abbrev pub definition_f : Declaration
 definition_f = transparent (id_of (codes "f")) (prod nat nat) (fixpoint 0 (f_function ∷ []))
@@ -160,7 +160,7 @@ definition_f = transparent (id_of (codes "f")) (prod nat nat) (fixpoint 0 (f_fun
 -- Fixpoint g (m n : nat) : nat := match n return nat with O => m | S p => g m p end.
 abbrev pub g_function : (k : ℕ) → Function
 g_function k = record {
-  k = k;
+  recursive_place = k;
   domains = nat ∷ nat ∷ [];
   codomain = nat;
   body = match_nat nat (rel 0) (rel 1) (apply (rel 3) (rel 2 ∷ rel 0 ∷ []));
@@ -184,7 +184,7 @@ bool_block = record {
 -- with odd (n : nat) : bool := match n return bool with O => false | S p => even p end.
 abbrev pub even_function : Function
 even_function = record {
-  k = 0;
+  recursive_place = 0;
   domains = nat ∷ [];
   codomain = bool;
   body = match_nat bool (rel 0) (ctor (id_of (codes "true"))) (app (rel 2) (rel 0));
@@ -192,7 +192,7 @@ even_function = record {
 
 abbrev pub odd_function : Function
 odd_function = record {
-  k = 0;
+  recursive_place = 0;
   domains = nat ∷ [];
   codomain = bool;
   body = match_nat bool (rel 0) (ctor (id_of (codes "false"))) (app (rel 3) (rel 0));
@@ -279,7 +279,7 @@ definition_N = transparent (id_of (codes "N")) (sort set) nat
 -- fix zero (n : nat) {struct n} : N := match n return N with O => O | S p => zero p end
 abbrev pub zero_function : Function
 zero_function = record {
-  k = 0;
+  recursive_place = 0;
   domains = nat ∷ [];
   codomain = N;
   body = match_nat N (rel 0) O (app (rel 2) (rel 0));
@@ -290,7 +290,7 @@ with_N = environment (inductive nat_block ∷ inductive eq_block ∷ definition_
 
 -- Universes u v. Axiom F : Type@{v} -> Prop. Theorem a : Prop. Proof F Type@{u}.
 abbrev pub level : List ℕ → Level
-level name = Named (record { lib = codes "A"; owner = name; part = Declared; number = 0 })
+level name = Named (record { lib = codes "A"; owner = name; part = Declared })
 
 abbrev pub universe : List ℕ → Tree
 universe name = sort (typ (record { level = level name; plus = false } ∷ []))
@@ -361,3 +361,11 @@ evaluated name rest = whnf_from 1 booleans [] (const (id_of name)) (record { res
 -- Done, with nothing left.
 abbrev pub spent_all : Tree → Outcome Tree
 spent_all t = done t (record { rest = 0; found = [] })
+
+-- The weak head normal form of a term in which n : nat is Rel 0, with arithmetic, within so many steps; and whether
+-- it is convertible with n.
+abbrev pub evaluated_at_n : Tree → (rest : ℕ) → Outcome Tree
+evaluated_at_n t rest = whnf_from 1 arithmetic (assumed nat ∷ []) t (record { rest = rest; found = [] })
+
+abbrev pub converted_with_n : Tree → (rest : ℕ) → Outcome (Unit {0})
+converted_with_n t rest = conv_from 1 arithmetic (assumed nat ∷ []) t (rel 0) (record { rest = rest; found = [] })
