@@ -1,5 +1,0 @@
-use Rattle.cic_laws.proofs.BudgetsChecking.{check_accepts_the_same}
-use Rattle.cic_laws.proofs.budgets.greater_budget_accepts_the_same.Goals as goal
-
-pub returns : goal.returns
-returns c = check_accepts_the_same

@@ -1,5 +1,0 @@
-use Rattle.cic_laws.proofs.EnvironmentsReached.{check_over_same_meanings}
-use Rattle.cic_laws.proofs.environments.check_sees_what_ids_stand_for.Goals as goal
-
-pub returns : goal.returns
-returns c = check_over_same_meanings

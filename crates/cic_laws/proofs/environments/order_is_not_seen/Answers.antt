@@ -1,5 +1,0 @@
-use Rattle.cic_laws.proofs.EnvironmentsReached.{check_in_any_order}
-use Rattle.cic_laws.proofs.environments.order_is_not_seen.Goals as goal
-
-pub returns : goal.returns
-returns c = check_in_any_order

@@ -1,5 +1,0 @@
-use Rattle.cic_laws.proofs.EvaluationConversion.{conversion_is_right}
-use Rattle.cic_laws.proofs.evaluation.converted_terms_are_convertible.Goals as goal
-
-pub returns : goal.returns
-returns c = conversion_is_right

@@ -1,5 +1,0 @@
-use Rattle.cic_laws.proofs.EvaluationConversion.{subtyping_is_right}
-use Rattle.cic_laws.proofs.evaluation.subtypes_are_at_most.Goals as goal
-
-pub returns : goal.returns
-returns c = subtyping_is_right

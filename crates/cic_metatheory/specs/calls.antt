@@ -1,0 +1,2 @@
+-- Words that single laws are stated by.
+pub mod Guards

@@ -1,0 +1,5 @@
+-- Inference and checks against a type.
+pub mod Calls
+pub mod Elimination
+pub mod Sorts
+pub mod Typed

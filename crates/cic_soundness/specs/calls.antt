@@ -1,0 +1,3 @@
+-- Words that single laws are stated by.
+pub mod FixParts
+pub mod PlainGuard
