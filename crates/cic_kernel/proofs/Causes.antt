@@ -1,11 +1,11 @@
 -- Why a call on the language stops: it is spent or too deep, or it refuses for a cause of the language. So who
 -- prints the refusal of an axiom has no other cause to put into words, and no other term.
-use Rattle.std.proofs.Common.{◌≡◌, ℕ, zero, suc, ◌+◌, ◌-◌, true, false, if◌then◌else◌, Option, Some, None, List, [], ◌∷◌, refl, sym, subst, arith}
+use Rattle.std.proofs.Common.{◌≡◌, ℕ, zero, suc, ◌+◌, ◌-◌, true, false, if◌then◌else◌, Option, Some, None, List, [], ◌∷◌, refl, sym, subst, arith, ap}
 use Rattle.cic_terms.specs.Tree.{TreeSort, Tree, rel, sort, prod, const}
 use Rattle.cic_terms.specs.Lift.{lift_tree}
-use Rattle.cic_rules.specs.Constraints.{Constraint}
+use Rattle.cic_names.specs.declared.constraint.Constraint.{Constraint}
 use Rattle.cic_rules.specs.Environment.{Environment, Context, Declaration, axiom_of, constant_type, type_at}
-use Rattle.cic_counted.specs.Outcome.{Budget, Outcome, Counted, done, stops, follow, ◌>>=◌, give, stop, tick, spend, deep, is_small, fitting, or_refuse, Cause, Stopped, refused, unbound, global, local}
+use Rattle.cic_counted.specs.Outcome.{Budget, Outcome, Counted, done, stops, follow, ◌>>=◌, give, stop, tick, spend, deep, is_small, fitting, or_refuse, Cause, Stopped, refused, unbound, global, local, universe_form}
 use Rattle.cic_counted.specs.Evaluation.{whnf_at}
 use Rattle.cic_counted.specs.Inference.{Calls, as_sort, product_sort, infer_step, type_of_sort, sort_step, calls_at, calls_from}
 use Rattle.cic_counted.specs.Checking.{rejects, all_visible, answer_of, check_declaration}
@@ -13,7 +13,7 @@ use Rattle.cic_kernel.specs.Counting.{left}
 use Rattle.cic_kernel.specs.Language.{TermOfLanguage, TypeOfLanguage, IsOfLanguage, EnvironmentOfLanguage, AreOfLanguage, CauseOfLanguage}
 use Rattle.cic_kernel.specs.State.{assumptions}
 use Rattle.cic_kernel.proofs.Evaluation.{whnf_is_itself_at, whnf_at_the_last}
-use Rattle.cic_kernel.proofs.TypesOfTerms.{CallsKeep, calls_keep, whnf_keeps}
+use Rattle.cic_kernel.proofs.TypesOfTerms.{CallsKeep, calls_keep, whnf_keeps, product_sort_is}
 
 -- A stop that is no refusal, or one for a cause of the language.
 abbrev StopOfLanguage : Stopped → Type 0
@@ -67,8 +67,9 @@ record CallsStop (E : Environment) (calls : Calls) : Type 0 where
 module _ (k : ℕ) (E : Environment) (in_language : EnvironmentOfLanguage E) (calls : Calls) (keeps : CallsKeep E calls) (h : CallsStop E calls) where
   product_stops : (ts : List Tree) (a u : Tree) (b : Budget) → AreOfLanguage ts → TermOfLanguage a → TermOfLanguage u → StopsInLanguage (infer_step (whnf_at k E) calls E (assumptions ts) (prod a u) b)
   product_stops ts a u b g p q =
-      then_stops (calls.sort_of (assumptions ts) a b) (λ s. calls.sort_of (assumptions (a ∷ ts)) u >>= λ s'. give (sort (product_sort s s'))) (h.sort_of ts a b g p)
-      (λ s b' e. then_stops (calls.sort_of (assumptions (a ∷ ts)) u b') (λ s'. give (sort (product_sort s s'))) (h.sort_of (a ∷ ts) u b' (p, g) q) (λ s' b'' e'. tt))
+      then_stops (calls.sort_of (assumptions ts) a b) (λ s. calls.sort_of (assumptions (a ∷ ts)) u >>= λ s'. or_refuse (product_sort s s') (universe_form s s') >>= λ r. give (sort r)) (h.sort_of ts a b g p)
+      (λ s b' e. then_stops (calls.sort_of (assumptions (a ∷ ts)) u b') (λ s'. or_refuse (product_sort s s') (universe_form s s') >>= λ r. give (sort r)) (h.sort_of (a ∷ ts) u b' (p, g) q) (λ s' b'' e'.
+      subst StopsInLanguage (sym (ap (λ o. (or_refuse o (universe_form s s') >>= λ r. give (sort r)) b'') (product_sort_is s s' (keeps.sort_of ts a s b b' g p e).kind (keeps.sort_of (a ∷ ts) u s' b' b'' (p, g) q e').kind))) tt))
 
   infer_stops : (ts : List Tree) (t : Tree) (b : Budget) → AreOfLanguage ts → TermOfLanguage t → StopsInLanguage (infer_step (whnf_at k E) calls E (assumptions ts) t b)
   infer_stops ts (rel x) b g p = variable_stops (type_at (assumptions ts) x) x (x + 1) b

@@ -9,7 +9,7 @@ use Rattle.cic_counted.specs.Inference.{calls_from}
 use Rattle.cic_counted.specs.Checking.{Found, accepts, rejects, all_visible, answer_of, check_declaration}
 use Rattle.cic_env.specs.declared.verdict.Found as F
 use Rattle.cic_env.specs.declared.verdict.Verdict.{Verdict}
-use Rattle.cic_env.specs.Verdicts.{Judges}
+use Rattle.cic_kernel.specs.Verdicts.{Judges}
 use Rattle.cic_kernel.specs.Counting.{left, StopsFor, Rejects}
 use Rattle.cic_kernel.specs.Language.{IsOfLanguage, TermOfLanguage, EnvironmentOfLanguage, IsUniverse}
 use Rattle.cic_kernel.proofs.TypesOfTerms.{calls_keep_from}

@@ -1,20 +1,14 @@
 -- The counted functions by the depth of the call: each is entered, and then does its step over the calls
 -- one deeper. The code counts the depth up where the definitions count what is left of it down.
-use Rattle.std.proofs.Common.{◌≡◌, ℕ, suc, ◌+◌, ◌-◌, Bool, true, false, nat_lt, if◌then◌else◌, Option, Some, None, refl, sym, ap, ◌∙◌, subst, arith, Result, Ok, Err}
-use Rattle.std.specs.Prelude.{IfOk, OnErr}
-use Rattle.std.specs.declared.rc.Rc.{Rc}
-use Rattle.std.specs.declared.alloc.Global.{Global}
+use Rattle.std.proofs.Common.{◌≡◌, ℕ, suc, ◌+◌, ◌-◌, Bool, true, false, nat_lt, if◌then◌else◌, Option, refl, ap, ◌∙◌, arith}
+use Rattle.memory.proofs.Passing.{passed_on}
 use Rattle.std.proofs.lemmas.Bool.Decides.{nat_tests}
 use Rattle.cic_terms.specs.Tree.{Tree}
 use Rattle.cic_rules.specs.Environment.{Environment, Context}
 use Rattle.cic_counted.specs.Outcome.{Budget, Outcome, Counted, follow, ◌>>=◌, done, stops, stop, deep, tick, Stopped}
 use Rattle.cic_counted.specs.Evaluation.{whnf_at, whnf_from}
 use Rattle.cic_counted.specs.Inference.{calls_at, calls_from, infer_step, sort_step, as_sort}
-use Rattle.cic_kernel.specs.Counting.{entered, left, reason, shared_tree, Tells, StopsFor}
-use Rattle.cic_kernel.specs.declared.stopping.Stop.{Stop}
-use Rattle.cic_kernel.specs.declared.stopping.Stop.TheVariants as S
-use Rattle.cic_terms.specs.Denotes.{tree}
-use Rattle.cic_terms.specs.declared.term.Term.{Term}
+use Rattle.cic_kernel.specs.Counting.{entered, StopsFor}
 use Rattle.cic_kernel.specs.State.{environment_of, context_of, inference_in, Stays}
 use Rattle.cic_kernel.specs.declared.state.Check.{Check}
 
@@ -48,8 +42,7 @@ sort_is d E G t b =
 
 -- A stop of the first call is that of the whole.
 pub stops_on : {A B : Type 0} (why : Option Stopped) (o : Outcome A) (f : A → Counted B) → StopsFor why o → StopsFor why (follow o f)
-stops_on None o f h = tt
-stops_on (Some s) o f h = ap (λ (p : Outcome _). follow p f) h
+stops_on why o f h = passed_on (λ p. follow p f) stops stops (λ s. refl) why o h
 
 -- The sort of a type once its call is entered, once the type's type is there, and once that is evaluated.
 pub sort_entered : (d : ℕ) (E : Environment) (G : Context) (t : Tree) (b b' : Budget) → entered d b ≡ done tt b' →
@@ -77,8 +70,3 @@ infer_entered before after t b b' h e =
     infer_is before.depth (environment_of before) (context_of before) t b
     ∙ ap (λ o. follow o (λ _. inference_in before t)) e
     ∙ inference_stays before after t b' h
-
--- A term that is made for a value of the definition, or for want of memory is not made.
-pub made_tells : (r : Result (Rc Term Global) Stop) (rest : ℕ) (T : Tree) → IfOk r (λ t. tree t.value ≡ T) → OnErr r (r ≡ Err S.NoMemory) → Tells shared_tree r rest (done T (left rest))
-made_tells (Ok t) rest T ok err = ap (λ T. done T (left rest)) (sym ok)
-made_tells (Err e) rest T ok err = let no_memory : e ≡ S.NoMemory = cc in subst (λ e. StopsFor (reason e) (done T (left rest))) (sym no_memory) tt

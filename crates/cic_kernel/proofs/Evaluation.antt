@@ -2,7 +2,7 @@
 -- of the call and no other. This is why the code counts a call and evaluates nothing.
 use Rattle.std.proofs.Common.{◌≡◌, ℕ, zero, suc, List, refl, ap}
 use Rattle.cic_terms.specs.Tree.{Tree, rel, sort, prod, const}
-use Rattle.cic_rules.specs.Constraints.{Constraint}
+use Rattle.cic_names.specs.declared.constraint.Constraint.{Constraint}
 use Rattle.cic_rules.specs.Environment.{Environment}
 use Rattle.cic_counted.specs.Outcome.{Budget, Counted, done, stops, deep, follow, ◌>>=◌, give, stop, spent, tick}
 use Rattle.cic_counted.specs.Evaluation.{answer, variable_turn, constant_turn, turn_of, goes_on, loop_of, whnf_at, whnf_from}

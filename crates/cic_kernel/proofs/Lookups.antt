@@ -5,7 +5,7 @@ use Rattle.std.proofs.lemmas.List.{length-map, length-reverse, get_or-reverse, g
 use Rattle.std.specs.Prelude.{IfSome}
 use Rattle.cic_terms.specs.Tree.{Tree}
 use Rattle.cic_names.specs.declared.name.GlobalId.{GlobalId}
-use Rattle.cic_rules.specs.Sameness.{same_id}
+use Rattle.cic_names.specs.Sameness.{same_id}
 use Rattle.cic_rules.specs.Environment.{Environment, Declaration, axiom_of, declared, Meaning, constant, meaning, or_else, element, constant_type, constant_type_in, transparent_body, transparent_body_in, type_at, body_at}
 use Rattle.cic_kernel.specs.Language.{TermOfLanguage, IsOfLanguage, EnvironmentOfLanguage, AreOfLanguage}
 use Rattle.cic_kernel.specs.State.{assumptions}

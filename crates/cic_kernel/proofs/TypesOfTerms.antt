@@ -4,9 +4,9 @@ use Rattle.std.proofs.Common.{◌≡◌, ℕ, zero, suc, ◌+◌, ◌-◌, Optio
 use Rattle.std.specs.Prelude.{IfSome}
 use Rattle.cic_terms.specs.Tree.{TreeSort, Tree, rel, sort, prod, const}
 use Rattle.cic_terms.specs.Lift.{lift_tree}
-use Rattle.cic_rules.specs.Constraints.{Constraint}
+use Rattle.cic_names.specs.declared.constraint.Constraint.{Constraint}
 use Rattle.cic_rules.specs.Environment.{Environment, Context, constant_type, type_at}
-use Rattle.cic_counted.specs.Outcome.{Budget, Counted, done, stops, ◌>>=◌, give, tick, fitting, or_refuse, Cause, Stopped, unbound, global, local}
+use Rattle.cic_counted.specs.Outcome.{Budget, Counted, done, stops, ◌>>=◌, give, tick, fitting, or_refuse, Cause, Stopped, unbound, global, local, universe_form}
 use Rattle.cic_counted.specs.Evaluation.{whnf_at}
 use Rattle.cic_counted.specs.Inference.{Calls, as_sort, product_sort, infer_step, type_of_sort, sort_step, calls_at, calls_from}
 use Rattle.cic_counted.proofs.Taken.{follow_done, done_value, done_rest, fitting_done}
@@ -28,7 +28,7 @@ term_is_type (sort s) h = inl h
 term_is_type t h = h
 
 -- The sort of a product is that of its codomain.
-pub product_sort_is : (s s' : TreeSort) → IsUniverse s → IsUniverse s' → product_sort s s' ≡ s'
+pub product_sort_is : (s s' : TreeSort) → IsUniverse s → IsUniverse s' → product_sort s s' ≡ Some s'
 product_sort_is s s' (inl p) (inl q) = rw (p, q) refl
 product_sort_is s s' (inl p) (inr q) = rw (p, q) refl
 product_sort_is s s' (inr p) (inl q) = rw (p, q) refl
@@ -86,12 +86,13 @@ module _ (k : ℕ) (E : Environment) (in_language : EnvironmentOfLanguage E) (ca
   product_keeps : (ts : List Tree) (a u T : Tree) (b b' : Budget) → AreOfLanguage ts → TermOfLanguage a → TermOfLanguage u →
       infer_step (whnf_at k E) calls E (assumptions ts) (prod a u) b ≡ done T b' → Keeps TypeOfLanguage b T b'
   product_keeps ts a u T b b' g p q e =
-      let i = follow_done (calls.sort_of (assumptions ts) a b) (λ s. calls.sort_of (assumptions (a ∷ ts)) u >>= λ s'. give (sort (product_sort s s'))) T b' e in
-      let j = follow_done (calls.sort_of (assumptions (a ∷ ts)) u i.1) (λ s'. give (sort (product_sort i.0 s'))) T b' i.3 in
+      let i = follow_done (calls.sort_of (assumptions ts) a b) (λ s. calls.sort_of (assumptions (a ∷ ts)) u >>= λ s'. or_refuse (product_sort s s') (universe_form s s') >>= λ r. give (sort r)) T b' e in
+      let j = follow_done (calls.sort_of (assumptions (a ∷ ts)) u i.1) (λ s'. or_refuse (product_sort i.0 s') (universe_form i.0 s') >>= λ r. give (sort r)) T b' i.3 in
       let domain = h.sort_of ts a i.0 b i.1 g p i.2 in
       let codomain = h.sort_of (a ∷ ts) u j.0 i.1 j.1 (p, g) q j.2 in
       kept_then (codomain.found ∙ domain.found)
-      (kept {P = TypeOfLanguage} {v = sort (product_sort i.0 j.0)} (subst IsUniverse (sym (product_sort_is i.0 j.0 domain.kind codomain.kind)) codomain.kind) j.3)
+      (kept {P = TypeOfLanguage} {v = sort j.0} codomain.kind
+      (sym (ap (λ o. (or_refuse o (universe_form i.0 j.0) >>= λ r. give (sort r)) j.1) (product_sort_is i.0 j.0 domain.kind codomain.kind)) ∙ j.3))
 
   infer_keeps : (ts : List Tree) (t T : Tree) (b b' : Budget) → AreOfLanguage ts → TermOfLanguage t →
       infer_step (whnf_at k E) calls E (assumptions ts) t b ≡ done T b' → Keeps TypeOfLanguage b T b'

@@ -1,5 +1,6 @@
 -- What a counted call of the program answers, against its definition.
-use Rattle.std.specs.Prelude.{◌≡◌, ℕ, nat_lt, if◌then◌else◌, Option, Some, None, Result, Ok, Err, []}
+use Rattle.std.specs.Prelude.{◌≡◌, ℕ, nat_lt, if◌then◌else◌, Option, Some, None, Result, []}
+use Rattle.memory.specs.Telling.{OrNoMemory, Tells}
 use Rattle.std.specs.declared.rc.Rc.{Rc}
 use Rattle.std.specs.declared.alloc.Global.{Global}
 use Rattle.cic_terms.specs.Denotes.{tree}
@@ -10,7 +11,7 @@ use Rattle.cic_counted.specs.Checking.{rejects}
 use Rattle.cic_env.specs.declared.verdict.Found.{Found}
 use Rattle.cic_env.specs.declared.verdict.Verdict.{Verdict}
 use Rattle.cic_env.specs.declared.verdict.Verdict.TheVariants as V
-use Rattle.cic_env.specs.Verdicts.{Judges}
+use Rattle.cic_kernel.specs.Verdicts.{Judges}
 use Rattle.cic_kernel.specs.Language.{above_set}
 use Rattle.cic_kernel.specs.declared.stopping.Stop.{Stop}
 use Rattle.cic_kernel.specs.declared.stopping.Stop.TheVariants as S
@@ -36,13 +37,11 @@ reason S.NoMemory = None
 
 -- The definition stops for that reason. For want of memory the program may stop anywhere.
 abbrev pub StopsFor : {A : Type 0} → Option Stopped → Outcome A → Type 0
-StopsFor None o = Unit {0}
-StopsFor (Some s) o = o ≡ stops s
+StopsFor why o = OrNoMemory why (λ s. o ≡ stops s)
 
 -- The result is that of the definition, with so much left; `stands` says what a value stands for.
-abbrev pub Tells : {T A : Type 0} → (stands : T → A) → Result T Stop → (rest : ℕ) → Outcome A → Type 0
-Tells stands (Ok v) rest o = o ≡ done (stands v) (left rest)
-Tells stands (Err e) rest o = StopsFor (reason e) o
+abbrev pub Counts : {T A : Type 0} → (stands : T → A) → Result T Stop → (rest : ℕ) → Outcome A → Type 0
+Counts stands result rest o = Tells reason result (λ v. o ≡ done (stands v) (left rest)) (λ s. o ≡ stops s)
 
 -- What values stand for.
 abbrev pub no_value : Unit {0} → Unit {0}
@@ -61,9 +60,5 @@ Rejects verdict (Some s) = Judges verdict (rejects s)
 Rejects verdict None = verdict ≡ V.NoMemory
 
 -- A stop that refuses for a cause, or is for want of memory.
-abbrev pub RefusesFor : Cause → Option Stopped → Type 0
-RefusesFor cause None = Unit {0}
-RefusesFor cause (Some s) = s ≡ refused cause
-
 abbrev pub StopsWith : Stop → Cause → Type 0
-StopsWith stop cause = RefusesFor cause (reason stop)
+StopsWith stop cause = OrNoMemory (reason stop) (λ s. s ≡ refused cause)

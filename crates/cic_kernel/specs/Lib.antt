@@ -1,4 +1,5 @@
 pub mod Language
+pub mod Verdicts
 pub mod Counting
 pub mod State
 pub mod Accepting

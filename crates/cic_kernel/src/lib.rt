@@ -10,7 +10,7 @@ ghost use Rattle.cic_rules.specs.Numbering.{Numbering, MeetsAll};
 ghost use Rattle.cic_counted.specs.Checking.{check_declaration};
 ghost use Rattle.cic_env.specs.Declarations.{declaration, decl_id};
 ghost use Rattle.cic_env.specs.Environments.{items};
-ghost use Rattle.cic_env.specs.Verdicts.{Judges};
+ghost use Rattle.cic_kernel.specs.Verdicts.{Judges};
 ghost use Rattle.cic_kernel.specs.Accepting.{IfDone};
 ghost use Rattle.cic_kernel.specs.Language.{IsOfLanguage, EnvironmentOfLanguage};
 

@@ -1,13 +1,13 @@
 //! The state of a check, and the parts of inference that call nothing counted.
 
-ghost use Rattle.std.specs.Prelude.{◌≡◌, ◌≤◌, ◌++◌, ◌∷◌, [], OnOk, OnErr, IfOk, Err};
+ghost use Rattle.std.specs.Prelude.{◌≡◌, ◌≤◌, ◌++◌, ◌∷◌, [], OnOk, IfOk};
 ghost use Rattle.cic_terms.specs.Denotes.{tree};
 ghost use Rattle.cic_terms.specs.Lift.{lift_tree};
 ghost use Rattle.cic_terms.specs.Tree.{rel, const};
 ghost use Rattle.cic_counted.specs.Evaluation.{whnf_from};
 ghost use Rattle.cic_counted.specs.Inference.{as_sort};
 ghost use Rattle.cic_counted.specs.Outcome.{fitting, unbound, global};
-ghost use Rattle.cic_kernel.specs.Counting.{Tells, left, entered, StopsWith, no_value, shared_tree, universe_sort};
+ghost use Rattle.cic_kernel.specs.Counting.{Counts, left, entered, StopsWith, no_value, shared_tree, universe_sort};
 ghost use Rattle.cic_kernel.specs.Language.{TypeOfLanguage};
 ghost use Rattle.cic_kernel.specs.State.{IsReady, Stays, inference_in, environment_of, context_of};
 
@@ -16,6 +16,7 @@ use crate::universe::{Universe, universe_of};
 use cic_env::{Decl, Entry, Env};
 use cic_names::GlobalId;
 use cic_terms::{Term, TermFault, copy, lift_shared};
+use memory::NoMemory;
 use std::alloc::Global;
 use std::rc::Rc;
 
@@ -35,9 +36,8 @@ pub struct Check<'e> {
 
 /// A copy of a term, which shares its parts, behind a pointer.
 #[inline(never)]
-fn shared_copy(alloc: Global, t: &Term) -> Result<Rc<Term>, Stop>
-    ensures ok { IfOk result (λ r. tree r.value ≡ tree t.now) }
-    ensures err { OnErr result (result ≡ Err Stop.NoMemory) }
+fn shared_copy(alloc: Global, t: &Term) -> Result<Rc<Term>, NoMemory>
+    ensures { IfOk result (λ r. tree r.value ≡ tree t.now) }
 {
     Ok(Rc::new(alloc, copy(t)?)?)
 }
@@ -74,7 +74,7 @@ impl<'e> Check<'e> {
     #[inline(never)]
     pub fn enter(&mut self) -> Result<(), Stop>
         requires { self.old.depth ≤ 2001 }
-        ensures answer { Tells no_value result self.new.rest (entered self.old.depth (left self.old.rest)) }
+        ensures answer { Counts no_value result self.new.rest (entered self.old.depth (left self.old.rest)) }
         ensures stays { OnOk result (Stays self.old self.new) }
         ensures within { OnOk result (self.old.depth ≤ 2000) }
     {
@@ -92,7 +92,7 @@ impl<'e> Check<'e> {
     pub fn whnf(&mut self, ty: Rc<Term>) -> Result<Rc<Term>, Stop>
         requires ready { IsReady self.old }
         requires kind { TypeOfLanguage (tree ty.value) }
-        ensures answer { Tells shared_tree result self.new.rest (whnf_from self.old.depth (environment_of self.old) (context_of self.old) (tree ty.value) (left self.old.rest)) }
+        ensures answer { Counts shared_tree result self.new.rest (whnf_from self.old.depth (environment_of self.old) (context_of self.old) (tree ty.value) (left self.old.rest)) }
         ensures stays { OnOk result (Stays self.old self.new) }
         ensures same { IfOk result (λ v. v ≡ ty) }
     {
@@ -105,7 +105,7 @@ impl<'e> Check<'e> {
     pub fn as_sort(&self, ty: Rc<Term>) -> Result<Universe, Stop>
         requires ready { IsReady self.now }
         requires kind { TypeOfLanguage (tree ty.value) }
-        ensures { Tells universe_sort result self.now.rest (as_sort (context_of self.now) (tree ty.value) (left self.now.rest)) }
+        ensures { Counts universe_sort result self.now.rest (as_sort (context_of self.now) (tree ty.value) (left self.now.rest)) }
     {
         match universe_of(&ty) {
             Some(universe) => Ok(universe),
@@ -119,7 +119,7 @@ impl<'e> Check<'e> {
     /// A type past so many binders.
     #[inline(never)]
     fn lifted(&self, ty: &Rc<Term>, by: u32) -> Result<Rc<Term>, Stop>
-        ensures { Tells shared_tree result self.now.rest (fitting (lift_tree 0 by (tree ty.now.value)) (left self.now.rest)) }
+        ensures { Counts shared_tree result self.now.rest (fitting (lift_tree 0 by (tree ty.now.value)) (left self.now.rest)) }
     {
         match lift_shared(self.alloc, ty, 0, by) {
             Ok(ty) => Ok(ty),
@@ -132,7 +132,7 @@ impl<'e> Check<'e> {
     #[inline(never)]
     pub fn type_of_variable(&self, x: u32) -> Result<Rc<Term>, Stop>
         requires { IsReady self.now }
-        ensures { Tells shared_tree result self.now.rest (inference_in self.now (rel x) (left self.now.rest)) }
+        ensures { Counts shared_tree result self.now.rest (inference_in self.now (rel x) (left self.now.rest)) }
     {
         let count = self.context.len();
         let place = x as usize;
@@ -145,10 +145,10 @@ impl<'e> Check<'e> {
     /// The type of a constant.
     #[inline(never)]
     pub fn type_of_constant(&self, id: &GlobalId) -> Result<Rc<Term>, Stop>
-        ensures { Tells shared_tree result self.now.rest (inference_in self.now (const id.now) (left self.now.rest)) }
+        ensures { Counts shared_tree result self.now.rest (inference_in self.now (const id.now) (left self.now.rest)) }
     {
         match self.env.get(id) {
-            Some(Entry::Decl(Decl::Axiom { ty, .. })) => shared_copy(self.alloc, ty),
+            Some(Entry::Decl(Decl::Axiom { ty, .. })) => Ok(shared_copy(self.alloc, ty)?),
             None => Err(unknown_id(id)),
         }
     }

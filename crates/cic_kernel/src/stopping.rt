@@ -6,9 +6,9 @@ ghost use Rattle.cic_counted.specs.Outcome.{refused, not_sort};
 ghost use Rattle.cic_kernel.specs.Counting.{Rejects};
 
 use cic_env::{Cause, Found, Missing, Verdict};
-use cic_names::{GlobalId, NoMemory};
+use cic_names::GlobalId;
 use cic_terms::{Term, TermFault, copy};
-use std::alloc::{AllocError, AllocFailed};
+use memory::{NoMemory, OutOfMemory};
 use std::rc::Rc;
 
 /// Why a counted call has no value.
@@ -25,35 +25,13 @@ pub enum Stop {
     NoMemory,
 }
 
-impl From<NoMemory> for Stop {
+impl<E: OutOfMemory> From<E> for Stop {
     ghost use Rattle.std.specs.Prelude.{◌≡◌};
     ghost use Rattle.cic_kernel.specs.declared.stopping.Stop.TheVariants as S;
 
-    ghost from_gives = { λ _ e. e ≡ S.NoMemory };
+    ghost from_gives = { λ _ stop. stop ≡ S.NoMemory };
 
-    fn from(_fault: NoMemory) -> Stop {
-        Stop::NoMemory
-    }
-}
-
-impl From<AllocError> for Stop {
-    ghost use Rattle.std.specs.Prelude.{◌≡◌};
-    ghost use Rattle.cic_kernel.specs.declared.stopping.Stop.TheVariants as S;
-
-    ghost from_gives = { λ _ e. e ≡ S.NoMemory };
-
-    fn from(_fault: AllocError) -> Stop {
-        Stop::NoMemory
-    }
-}
-
-impl<T: Drop> From<AllocFailed<T>> for Stop {
-    ghost use Rattle.std.specs.Prelude.{◌≡◌};
-    ghost use Rattle.cic_kernel.specs.declared.stopping.Stop.TheVariants as S;
-
-    ghost from_gives = { λ _ e. e ≡ S.NoMemory };
-
-    fn from(_fault: AllocFailed<T>) -> Stop {
+    fn from(_fault: E) -> Stop {
         Stop::NoMemory
     }
 }

@@ -4,7 +4,7 @@ ghost use Rattle.std.specs.Prelude.{OnOk, ◌≤◌, ◌+◌};
 ghost use Rattle.cic_terms.specs.Denotes.{tree};
 ghost use Rattle.cic_terms.specs.Tree.{prod};
 ghost use Rattle.cic_counted.specs.Inference.{calls_from};
-ghost use Rattle.cic_kernel.specs.Counting.{Tells, left, shared_tree, universe_sort};
+ghost use Rattle.cic_kernel.specs.Counting.{Counts, left, shared_tree, universe_sort};
 ghost use Rattle.cic_kernel.specs.Language.{TermOfLanguage};
 ghost use Rattle.cic_kernel.specs.State.{IsReady, Stays, inference_in, environment_of, context_of};
 
@@ -21,7 +21,7 @@ impl Check<'_> {
     pub fn sort_of(&mut self, t: &Term) -> Result<Universe, Stop>
         requires ready { IsReady self.old }
         requires term { TermOfLanguage (tree t.now) }
-        ensures answer { Tells universe_sort result self.new.rest ((calls_from self.old.depth (environment_of self.old)).sort_of (context_of self.old) (tree t.now) (left self.old.rest)) }
+        ensures answer { Counts universe_sort result self.new.rest ((calls_from self.old.depth (environment_of self.old)).sort_of (context_of self.old) (tree t.now) (left self.old.rest)) }
         ensures stays { OnOk result (Stays self.old self.new) }
     {
         self.enter()?;
@@ -38,14 +38,14 @@ impl Check<'_> {
     fn infer(&mut self, t: &Term) -> Result<Rc<Term>, Stop>
         requires ready { IsReady self.old }
         requires term { TermOfLanguage (tree t.now) }
-        ensures answer { Tells shared_tree result self.new.rest ((calls_from self.old.depth (environment_of self.old)).infer (context_of self.old) (tree t.now) (left self.old.rest)) }
+        ensures answer { Counts shared_tree result self.new.rest ((calls_from self.old.depth (environment_of self.old)).infer (context_of self.old) (tree t.now) (left self.old.rest)) }
         ensures stays { OnOk result (Stays self.old self.new) }
     {
         self.enter()?;
         match t {
             Term::Rel(x) => self.type_of_variable(*x),
             // Prop, the only sort of the language
-            Term::Sort(_) => Universe::AboveSet.term(self.alloc),
+            Term::Sort(_) => Ok(Universe::AboveSet.term(self.alloc)?),
             Term::Const(id) => self.type_of_constant(id),
             Term::Prod(domain, codomain) => self.type_of_product(domain, codomain),
             _ => unreachable!(),
@@ -60,7 +60,7 @@ impl Check<'_> {
         requires within { self.old.depth ≤ 2000 }
         requires domain { TermOfLanguage (tree domain.now.value) }
         requires codomain { TermOfLanguage (tree codomain.now) }
-        ensures answer { Tells shared_tree result self.new.rest (inference_in self.old (prod (tree domain.now.value) (tree codomain.now)) (left self.old.rest)) }
+        ensures answer { Counts shared_tree result self.new.rest (inference_in self.old (prod (tree domain.now.value) (tree codomain.now)) (left self.old.rest)) }
         ensures stays { OnOk result (Stays self.old self.new) }
     {
         self.depth += 1;
@@ -69,6 +69,6 @@ impl Check<'_> {
         let sort = self.sort_of(codomain)?;
         let _domain = self.context.pop();
         self.depth -= 1;
-        sort.term(self.alloc)
+        Ok(sort.term(self.alloc)?)
     }
 }

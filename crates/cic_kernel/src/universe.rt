@@ -1,15 +1,15 @@
 //! The sorts of the types of the language.
 
-ghost use Rattle.std.specs.Prelude.{◌≡◌, option_map, IfOk, OnErr, Err};
+ghost use Rattle.std.specs.Prelude.{◌≡◌, option_map, IfOk};
 ghost use Rattle.cic_terms.specs.Denotes.{tree, tree_sort};
 ghost use Rattle.cic_terms.specs.Tree.{sort};
 ghost use Rattle.cic_counted.specs.Checking.{ending_sort};
 ghost use Rattle.cic_kernel.specs.Counting.{universe_sort};
 ghost use Rattle.cic_kernel.specs.Language.{TypeOfLanguage, above_set};
 
-use crate::stopping::Stop;
 use cic_names::{Atom, Expr, Level, Sort};
 use cic_terms::Term;
+use memory::NoMemory;
 use std::alloc::Global;
 use std::rc::Rc;
 
@@ -33,9 +33,8 @@ pub fn universe_of(ty: &Term) -> Option<Universe>
     }
 }
 
-fn sort_above_set(alloc: Global) -> Result<Sort, Stop>
-    ensures ok { IfOk result (λ s. tree_sort s ≡ above_set) }
-    ensures err { OnErr result (result ≡ Err Stop.NoMemory) }
+fn sort_above_set(alloc: Global) -> Result<Sort, NoMemory>
+    ensures { IfOk result (λ s. tree_sort s ≡ above_set) }
 {
     let mut atoms = Vec::new(alloc);
     atoms.push(Atom {
@@ -48,9 +47,8 @@ fn sort_above_set(alloc: Global) -> Result<Sort, Stop>
 impl Universe {
     /// The universe as a term.
     #[inline(never)]
-    pub fn term(self, alloc: Global) -> Result<Rc<Term>, Stop>
-        ensures ok { IfOk result (λ t. tree t.value ≡ sort (universe_sort self)) }
-        ensures err { OnErr result (result ≡ Err Stop.NoMemory) }
+    pub fn term(self, alloc: Global) -> Result<Rc<Term>, NoMemory>
+        ensures { IfOk result (λ t. tree t.value ≡ sort (universe_sort self)) }
     {
         let sort = match self {
             Universe::Prop => Sort::Prop,

@@ -2,7 +2,7 @@
 -- each of its sentences, since an environment is formed only where its ids are distinct.
 use Rattle.std.proofs.Common.{◌≡◌, List, [], ◌∷◌, ◌++◌, refl, sym, ap, ◌∙◌, subst, inl, inr, append_assoc}
 use Rattle.std.proofs.lemmas.List.Elements.{Contains-append_cases}
-use Rattle.cic_laws.proofs.EnvironmentsOrder.{contains_first, contains_rest, contains_cases, contains_none}
+use Rattle.cic_metatheory.proofs.basics.Elements.{contains_first, contains_rest, contains_cases, contains_none}
 use Rattle.std.specs.Prelude.{Contains}
 use Rattle.cic_terms.specs.Tree.{Tree}
 use Rattle.cic_names.specs.declared.name.GlobalId.{GlobalId}

@@ -6,7 +6,7 @@ ghost use Rattle.cic_terms.specs.Denotes.{tree};
 ghost use Rattle.gal_print.specs.Printing.{HasText, Prints, id_text};
 ghost use Rattle.gal_print.specs.Appending.{Appends};
 ghost use Rattle.cic_counted.specs.Outcome.{unbound};
-ghost use Rattle.cic_env.specs.Verdicts.{cause_of, missing_of};
+ghost use Rattle.cic_kernel.specs.Verdicts.{cause_of, missing_of};
 ghost use Rattle.cic_top.specs.Texts.{IsCauseText, AxiomLines, IsAxiomList, IsRefusalLine, word_line, line_text, lines_text};
 ghost use Rattle.cic_top.specs.Refusals.{ill};
 ghost use Rattle.cic_top.specs.Views.{refusal_of};

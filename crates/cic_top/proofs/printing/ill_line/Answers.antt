@@ -1,7 +1,7 @@
 -- The line is made of its parts.
 use Rattle.std.proofs.Common.{◌≡◌, codes}
 use Rattle.std.specs.String.{string_bytes}
-use Rattle.cic_env.specs.Verdicts.{cause_of}
+use Rattle.cic_kernel.specs.Verdicts.{cause_of}
 use Rattle.cic_top.proofs.Printed.{made_from, ill_text}
 use Rattle.cic_top.proofs.printing.ill_line.Goals as goal
 

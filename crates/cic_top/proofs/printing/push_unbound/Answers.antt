@@ -1,6 +1,6 @@
 -- What is not there is told by its id or its number.
 use Rattle.std.proofs.Common.{ap}
-use Rattle.cic_env.specs.Verdicts.{missing_of}
+use Rattle.cic_kernel.specs.Verdicts.{missing_of}
 use Rattle.gal_print.proofs.Printed.{on_ok_more}
 use Rattle.cic_top.proofs.Printed.{unbound_id_appended, unbound_variable_appended}
 use Rattle.cic_top.proofs.printing.push_unbound.Goals as goal

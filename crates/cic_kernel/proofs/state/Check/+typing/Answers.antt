@@ -1,10 +1,11 @@
-use Rattle.std.proofs.Common.{◌≡◌}
+use Rattle.std.proofs.Common.{◌≡◌, ap, sym}
 use Rattle.std.proofs.lemmas.Result.{err_from_is_err_and}
 use Rattle.cic_terms.specs.Denotes.{tree_sort}
-use Rattle.cic_terms.specs.Tree.{sort, prop}
+use Rattle.cic_terms.specs.Tree.{prop}
+use Rattle.cic_counted.specs.Outcome.{done}
+use Rattle.cic_kernel.specs.Counting.{left}
 use Rattle.cic_kernel.specs.State.{types_of}
-use Rattle.cic_kernel.specs.Language.{above_set}
-use Rattle.cic_kernel.proofs.Depths.{stops_on, infer_is, infer_entered, sort_is, sort_entered, sort_inferred, sort_evaluated, made_tells}
+use Rattle.cic_kernel.proofs.Depths.{stops_on, infer_is, infer_entered, sort_is, sort_entered, sort_inferred, sort_evaluated}
 use Rattle.cic_kernel.proofs.TypesOfTerms.{calls_keep_from}
 use Rattle.cic_kernel.proofs.state.Check.+typing.Goals as goal
 
@@ -18,11 +19,11 @@ infer-returns-in-Rel-clause-answer t c =
     rw (infer_entered c.args.self.now c.enter.new.self _ _ _ c.in_ok-enter.ensures.stays c.in_ok-enter.ensures.answer, c.in-Rel.is)
     c.type_of_variable.ensures
 
-pub infer-returns-in-Sort-clause-answer : goal.infer-returns-in-Sort-clause-answer
-infer-returns-in-Sort-clause-answer t c =
+pub infer-returns-in_ok-term-in-Sort-clause-answer : goal.infer-returns-in_ok-term-in-Sort-clause-answer
+infer-returns-in_ok-term-in-Sort-clause-answer t c =
     let is_prop : tree_sort c.in-Sort.field-0 ≡ prop = rw c.in-Sort.is at c.requires.term in
     rw (infer_entered c.args.self.now c.enter.new.self _ _ _ c.in_ok-enter.ensures.stays c.in_ok-enter.ensures.answer, c.in-Sort.is, is_prop)
-    (made_tells c.term.result c.enter.new.self.rest (sort above_set) c.term.ensures.ok c.term.ensures.err)
+    (ap (λ T. done T (left c.enter.new.self.rest)) (sym c.in_ok-term-in-Sort.ensures))
 
 pub infer-returns-in-Const-clause-answer : goal.infer-returns-in-Const-clause-answer
 infer-returns-in-Const-clause-answer t c =
