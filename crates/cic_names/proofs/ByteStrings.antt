@@ -1,10 +1,9 @@
 -- Different names, levels and constraints have different byte strings, whatever follows them.
 use Rattle.std.proofs.Common.{◌≡◌, ℕ, Bool, true, false, List, [], ◌∷◌, ◌++◌, length, refl, sym, ap, ap₂, ◌∙◌, arith, append_assoc}
 use Rattle.std.proofs.lemmas.List.{append-nil}
-use Rattle.cic_names.specs.Orders.{name_bytes, part_byte, digits, number_bytes, owner_bytes, named_bytes, level_bytes, strict_byte, right_bytes, constraint_bytes}
+use Rattle.cic_names.specs.Orders.{name_bytes, part_byte, digits, number_bytes, owner_bytes, level_bytes, strict_byte, right_bytes, constraint_bytes}
 use Rattle.cic_names.specs.declared.level.Part.{Part}
 use Rattle.cic_names.specs.declared.level.Part.TheVariants.{Declared, Visible, Proof}
-use Rattle.cic_names.specs.declared.level.LevelName.{LevelName}
 use Rattle.cic_names.specs.declared.level.Level.{Level}
 use Rattle.cic_names.specs.declared.level.Level.TheVariants.{Set, Named}
 use Rattle.cic_names.specs.declared.constraint.Constraint.{Constraint}

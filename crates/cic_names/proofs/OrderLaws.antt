@@ -1,8 +1,8 @@
 -- The orders of names, levels and constraints are total and tell different ones apart.
-use Rattle.std.proofs.Common.{◌≡◌, ℕ, List, [], ◌∷◌, refl, sym, ap, ◌∙◌, ◌↔◌, true, ◌<◌, ◌+◌, ◌*◌, ◌/◌, ◌%◌, arith}
+use Rattle.std.proofs.Common.{◌≡◌, ℕ, List, refl, sym, ap, ◌∙◌, ◌↔◌, ◌<◌, ◌+◌, ◌*◌, ◌/◌, ◌%◌, arith}
 use Rattle.std.proofs.lemmas.Cmp.{ranked, tied_itself}
-use Rattle.std.specs.Cmp.{IsTotalOrder, Equal-is}
-use Rattle.std.specs.Cmp.Lexicographic.{pointwise, on_texts, texts_ties, bytes_decides}
+use Rattle.std.specs.Cmp.{IsTotalOrder}
+use Rattle.std.specs.Cmp.Lexicographic.{on_texts, texts_ties, bytes_decides}
 use Rattle.std.specs.Ordering.{nat_cmp, on, is_eq, ordering_then, MatchOrdering}
 use Rattle.std.specs.declared.cmp.Ordering.{Ordering}
 use Rattle.std.specs.declared.cmp.Ordering.TheVariants.{Less, Equal, Greater}

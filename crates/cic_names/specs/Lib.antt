@@ -1,3 +1,4 @@
 pub mod Identifier
 pub mod Sameness
 pub mod Orders
+pub mod Texts

@@ -17,31 +17,11 @@ use std::collections::btree_set::Iter;
 use std::marker::Model;
 
 /// That the left level is at most the right one, or below it where `strict` holds. Coq Reference Manual, "Polymorphic Universes", universe constraints.
-#[derive(Debug, Drop)]
+#[derive(Clone, Debug, Drop)]
 pub struct Constraint {
     pub left: Level,
     pub strict: bool,
     pub right: Level,
-}
-
-impl Constraint {
-    /// The same constraint, which shares its names.
-    pub fn copy(&self) -> Result<Constraint, NoMemory>
-        ensures { IfOk result (λ c. c ≡ self.now) }
-    {
-        Ok(Constraint {
-            left: self.left.copy()?,
-            strict: self.strict,
-            right: self.right.copy()?,
-        })
-    }
-
-    /// Whether the two are the same constraint.
-    pub fn same(&self, other: &Constraint) -> bool
-        ensures { IsTrue result ↔ (self.now ≡ other.now) }
-    {
-        self.strict == other.strict && self.left.same(&other.left) && self.right.same(&other.right)
-    }
 }
 
 impl PartialEq for Constraint {
@@ -136,10 +116,7 @@ impl Constraints {
         ensures unchanged { OnErr result (self.new ≡ self.old) }
         ensures ordered { IsStrictlySortedBy constraint_order self.new }
     {
-        match self.set.insert(constraint) {
-            Ok(added) => Ok(added),
-            Err(_) => Err(NoMemory),
-        }
+        Ok(self.set.insert(constraint)?)
     }
 
     /// The constraints in order.

@@ -2,13 +2,17 @@
 #![tactic(auto)]
 
 mod constraint;
+mod display;
 mod laws;
 mod level;
 mod name;
 mod order;
 
 pub use constraint::{Constraint, Constraints};
-pub use laws::{orders_are_total, orders_decide_equality, tests_decide_equality};
+pub use laws::{
+    clones_are_equal, equal_decides_equality, ids_are_told_apart_by_text, orders_are_total,
+    orders_decide_equality, tests_decide_equality,
+};
 pub use level::{Atom, Expr, Level, LevelName, Part, Sort};
 pub use memory::NoMemory;
 pub use name::{GlobalId, LibName, Name, NameFault};

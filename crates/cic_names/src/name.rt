@@ -10,8 +10,8 @@ ghost use Rattle.std.proofs.Common.{rules};
 ghost use Rattle.cic_names.specs.Identifier.{is_first, is_further, is_word, is_one_of, sort_words, binder_words, match_words, is_reserved, IsIdentifier};
 ghost use Rattle.std.specs.List.{list_all};
 
-use memory::NoMemory;
-use std::alloc::Global;
+use memory::OutOfMemory;
+use std::alloc::{AllocError, Global};
 use std::cmp::Ordering;
 use std::hash::{Hash, Hasher};
 use std::marker::Model;
@@ -29,6 +29,16 @@ pub enum NameFault {
     Long,
     #[error("out of memory")]
     NoMemory,
+}
+
+impl<E: OutOfMemory> From<E> for NameFault {
+    ghost use Rattle.cic_names.specs.declared.name.NameFault.TheVariants.{NoMemory};
+
+    ghost from_gives = { λ _ fault. fault ≡ NoMemory };
+
+    fn from(_fault: E) -> NameFault {
+        NameFault::NoMemory
+    }
 }
 
 /// An identifier of 1 to 255 bytes. Copies share its text.
@@ -148,10 +158,9 @@ impl Name {
         if text.len() > 255 {
             return Err(NameFault::Long);
         }
-        match RcStr::from_str(alloc, text) {
-            Ok(text) => Ok(Name { text }),
-            Err(_) => Err(NameFault::NoMemory),
-        }
+        Ok(Name {
+            text: RcStr::from_str(alloc, text)?,
+        })
     }
 
     /// The identifier.
@@ -171,22 +180,15 @@ impl Name {
     {
         self.text.as_str().as_bytes()
     }
+}
 
-    /// The same name, which shares the text.
-    pub fn copy(&self) -> Result<Name, NoMemory>
-        ensures { IfOk result (λ name. name ≡ self.now) }
-    {
-        match self.text.clone() {
-            Ok(text) => Ok(Name { text }),
-            Err(_) => Err(NoMemory),
-        }
-    }
+impl Clone for Name {
+    ghost is_clone = { λ a b. b ≡ a };
 
-    /// Whether the two are spelled the same.
-    pub fn same(&self, other: &Name) -> bool
-        ensures { IsTrue result ↔ (self.now ≡ other.now) }
-    {
-        self.text.as_str() == other.text.as_str()
+    fn clone(&self) -> Result<Name, AllocError> {
+        Ok(Name {
+            text: self.text.clone()?,
+        })
     }
 }
 
@@ -242,27 +244,8 @@ impl Hash for Name {
 pub type LibName = Name;
 
 /// A library and a name in it.
-#[derive(Debug, Drop, PartialEq, Eq, PartialOrd, Ord, Hash)]
+#[derive(Clone, Debug, Drop, PartialEq, Eq, PartialOrd, Ord, Hash)]
 pub struct GlobalId {
     pub lib: LibName,
     pub name: Name,
-}
-
-impl GlobalId {
-    /// The same id, which shares its names.
-    pub fn copy(&self) -> Result<GlobalId, NoMemory>
-        ensures { IfOk result (λ id. id ≡ self.now) }
-    {
-        Ok(GlobalId {
-            lib: self.lib.copy()?,
-            name: self.name.copy()?,
-        })
-    }
-
-    /// Whether the two are the same id.
-    pub fn same(&self, other: &GlobalId) -> bool
-        ensures { IsTrue result ↔ (self.now ≡ other.now) }
-    {
-        self.name.same(&other.name) && self.lib.same(&other.lib)
-    }
 }

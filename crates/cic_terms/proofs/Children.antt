@@ -4,7 +4,7 @@ use Rattle.std.proofs.Math.Seq.{drop-cons}
 use Rattle.std.proofs.lemmas.Grind.{common_steps}
 use Rattle.cic_terms.specs.Tree.{Tree, node, Former, Children, no_child, child, Binders, over, join}
 use Rattle.cic_terms.specs.Sizes.{Fits, ChildrenFit, depth_children, max_rel_children}
-use Rattle.cic_terms.specs.Lift.{lift_tree, lift_children, subst_tree, subst_children}
+use Rattle.cic_terms.specs.calls.Walk.{map_tree, map_children}
 
 pub drop_at : {A : Type 0} (xs : List A) (i : ℕ) (x : A) → i < length xs → x ≡ get_or xs i x → drop i xs ≡ x ∷ drop (i + 1) xs
 drop_at xs i x h e = rw add-one (drop-cons xs i x h ∙ ap (λ y. y ∷ drop (suc i) xs) (sym e))
@@ -37,13 +37,9 @@ join_fits room a b h = (
   record { depth = omega (arith, depth_join a b, h.depth); rels = omega (arith, rels_join a b, h.rels) },
 )
 
-pub lift_join : (from by : ℕ) (a b : Children) → lift_children from by (join a b) ≡ join (lift_children from by a) (lift_children from by b)
-lift_join from by no_child b = refl
-lift_join from by (child n t ks) b = ap (child n (lift_tree (over n from) by t)) (lift_join from by ks b)
-
-pub subst_join : (at : ℕ) (w : Tree) (a b : Children) → subst_children at w (join a b) ≡ join (subst_children at w a) (subst_children at w b)
-subst_join at w no_child b = refl
-subst_join at w (child n t ks) b = ap (child n (subst_tree (over n at) w t)) (subst_join at w ks b)
+pub map_join : (becomes : ℕ → ℕ → Tree) (at : ℕ) (a b : Children) → map_children becomes at (join a b) ≡ join (map_children becomes at a) (map_children becomes at b)
+map_join becomes at no_child b = refl
+map_join becomes at (child n t ks) b = ap (child n (map_tree becomes (over n at) t)) (map_join becomes at ks b)
 
 pub kid_fits : (room : ℕ) (b : Binders) (t : Tree) → Fits room t → ChildrenFit room (child b t no_child)
 kid_fits room b t f = record { depth = omega (arith, f.depth); rels = omega (arith, f.rels) }
@@ -83,12 +79,7 @@ unfoldable pub count_children : Children → ℕ
 count_children no_child = 0
 count_children (child b t ks) = suc (count_children ks)
 
-pub count_lift : (from by : ℕ) (ks : Children) → count_children (lift_children from by ks) ≡ count_children ks
+pub count_map : (becomes : ℕ → ℕ → Tree) (at : ℕ) (ks : Children) → count_children (map_children becomes at ks) ≡ count_children ks
 unfolding count_children
-count_lift from by no_child = refl
-count_lift from by (child b t ks) = ap suc (count_lift from by ks)
-
-pub count_subst : (at : ℕ) (w : Tree) (ks : Children) → count_children (subst_children at w ks) ≡ count_children ks
-unfolding count_children
-count_subst at w no_child = refl
-count_subst at w (child b t ks) = ap suc (count_subst at w ks)
+count_map becomes at no_child = refl
+count_map becomes at (child b t ks) = ap suc (count_map becomes at ks)

@@ -5,7 +5,7 @@ use Rattle.std.proofs.Math.Seq.{take-suc}
 use Rattle.std.proofs.lemmas.Grind.{common_steps}
 use Rattle.cic_terms.specs.Tree.{Tree, Children, no_child, child, many, join}
 use Rattle.cic_terms.specs.Denotes.{tree, shapes, branch_list, term_list, body_list, shape, shape_list, domain_count}
-use Rattle.cic_terms.specs.Answer.{SameParts, AreSame, MakesBody, AddsBody, AreWhole, MakesBodies, after, terms_after, so_far}
+use Rattle.cic_terms.specs.calls.Answer.{SameParts, AreSame, MakesBody, AddsBody, AreWhole, MakesBodies, after, terms_after, so_far}
 use Rattle.cic_terms.specs.Sizes.{Fits, ChildrenFit}
 use Rattle.std.specs.declared.rc.Rc.{Rc}
 use Rattle.std.specs.declared.alloc.Global.{Global}

@@ -8,3 +8,4 @@ pub mod Mentioned
 pub mod Sameness
 pub mod Shaped
 pub mod Gathered
+pub mod Walked

@@ -2,7 +2,7 @@
 use Rattle.std.proofs.Common.{◌≡◌, ◌↔◌, ◌⊎◌, inl, inr, ℕ, ◌+◌, List, [], ◌∷◌, length, ap, sym, subst}
 use Rattle.cic_terms.specs.Tree.{Children, no_child, child, many, join}
 use Rattle.cic_terms.specs.Mentions.{ChildrenMention}
-use Rattle.cic_terms.specs.Answer.{PartsMention}
+use Rattle.cic_terms.specs.calls.Answer.{PartsMention}
 use Rattle.cic_terms.specs.Denotes.{tree, bodies, body_list, body_parts, terms, domain_count}
 use Rattle.cic_names.specs.declared.name.GlobalId.{GlobalId}
 use Rattle.cic_terms.specs.declared.term.FixBody.{FixBody}

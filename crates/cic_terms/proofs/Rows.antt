@@ -1,10 +1,10 @@
 -- The parts of a `Vec` of terms are those of the list of its items.
 use Rattle.std.proofs.Common.{◌≡◌, ℕ, suc, ◌+◌, List, [], ◌∷◌, ◌++◌, length, refl, sym, ap, ◌∙◌, arith}
 use Rattle.cic_terms.specs.Tree.{Tree, Children, no_child, child, many, join, Shape}
-use Rattle.cic_terms.specs.Lift.{lift_tree, lift_children, subst_tree, subst_children}
+use Rattle.cic_terms.specs.calls.Walk.{map_tree, map_children}
 use Rattle.cic_terms.specs.Sizes.{Fits, ChildrenFit}
 use Rattle.cic_terms.specs.Denotes.{tree, branches, bodies, shapes, branch_row, term_row, body_row, shape_row, count_terms, count_bodies, terms, branch_list, term_list, body_list, shape_list, body_parts, shape}
-use Rattle.cic_terms.proofs.Children.{join_leaf, join_assoc, lift_join, subst_join, fits_join, join_fits, count_children}
+use Rattle.cic_terms.proofs.Children.{join_leaf, join_assoc, map_join, fits_join, join_fits, count_children}
 use Rattle.cic_terms.specs.declared.term.Term.{Term}
 use Rattle.cic_terms.specs.declared.term.Branch.{Branch}
 use Rattle.cic_terms.specs.declared.term.Terms.{Terms}
@@ -142,13 +142,9 @@ terms_count a ks n e f = sym (count_terms_list 0 a.items.items) ∙ ap count_chi
 abbrev pub parts : Children → ℕ → Tree → ℕ → Tree → Children
 parts ds m c n b = join ds (child (many m) c (child (many n) b no_child))
 
-pub lift_parts : (from by : ℕ) (ds : Children) (m : ℕ) (c : Tree) (n : ℕ) (b : Tree) →
-    lift_children from by (parts ds m c n b) ≡ parts (lift_children from by ds) m (lift_tree (from + m) by c) n (lift_tree (from + n) by b)
-lift_parts from by ds m c n b = lift_join from by ds (child (many m) c (child (many n) b no_child))
-
-pub subst_parts : (at : ℕ) (w : Tree) (ds : Children) (m : ℕ) (c : Tree) (n : ℕ) (b : Tree) →
-    subst_children at w (parts ds m c n b) ≡ parts (subst_children at w ds) m (subst_tree (at + m) w c) n (subst_tree (at + n) w b)
-subst_parts at w ds m c n b = subst_join at w ds (child (many m) c (child (many n) b no_child))
+pub map_parts : (becomes : ℕ → ℕ → Tree) (at : ℕ) (ds : Children) (m : ℕ) (c : Tree) (n : ℕ) (b : Tree) →
+    map_children becomes at (parts ds m c n b) ≡ parts (map_children becomes at ds) m (map_tree becomes (at + m) c) n (map_tree becomes (at + n) b)
+map_parts becomes at ds m c n b = map_join becomes at ds (child (many m) c (child (many n) b no_child))
 
 pub parts_fit : (room : ℕ) (ds : Children) (m : ℕ) (c : Tree) (n : ℕ) (b : Tree) → ChildrenFit room ds → Fits room c → Fits room b → ChildrenFit room (parts ds m c n b)
 parts_fit room ds m c n b f g h =

@@ -1,8 +1,13 @@
 -- Functions are the same where their shapes and their parts are.
-use Rattle.std.proofs.Common.{◌≡◌, ◌≢◌, ◌↔◌, IsTrue, false, true≢false, ℕ, suc, List, ◌∷◌, length, refl, sym, ap, ◌∙◌, subst}
-use Rattle.cic_terms.specs.Tree.{Children, no_child, child, join, Shape}
-use Rattle.cic_terms.specs.Denotes.{branches, terms, body_list, shape_list, body_parts, shape, domain_count}
-use Rattle.cic_terms.specs.Answer.{SameParts, SameBodies}
+use Rattle.std.proofs.Common.{◌≡◌, ◌≢◌, ◌↔◌, IsTrue, Bool, false, true≢false, ℕ, suc, List, ◌∷◌, length, refl, sym, ap, ◌∙◌, subst}
+use Rattle.cic_terms.specs.Tree.{Children, no_child, child, join, Shape, sort}
+use Rattle.cic_names.specs.declared.level.Sort.{Sort}
+use Rattle.cic_names.specs.declared.level.Sort.TheVariants.{Prop, Set, Typ}
+use Rattle.cic_names.specs.contracts.level.SortPartialEq.TheImpl as sorts
+use Rattle.cic_names.proofs.Equality.{sort_equal_decides}
+use Rattle.cic_terms.specs.declared.term.Term.{Term, Sort as SortTerm}
+use Rattle.cic_terms.specs.Denotes.{tree, tree_sort, branches, terms, body_list, shape_list, body_parts, shape, domain_count}
+use Rattle.cic_terms.specs.calls.Answer.{SameParts, SameBodies}
 use Rattle.cic_terms.specs.declared.term.FixBody.{FixBody}
 use Rattle.cic_terms.specs.declared.term.Branches.{Branches, out-Branches}
 use Rattle.cic_terms.specs.declared.term.Terms.{Terms}
@@ -98,3 +103,21 @@ trees_length a b e = sym (count_terms_list 0 a.items.items) ∙ ap count_childre
 -- lists that differ in length differ
 pub differ : (p q m n : ℕ) (S : Type 0) → m ≢ n → p ≡ m → q ≡ n → (S → p ≡ q) → IsTrue false ↔ S
 differ p q m n S h e f same = (λ z. absurd (true≢false (sym z)), λ z. absurd (h (sym e ∙ same z ∙ f)))
+
+sort_is : (s u : Sort) → sort (tree_sort s) ≡ sort (tree_sort u) → s ≡ u
+sort_is Prop Prop h = refl
+sort_is Set Set h = refl
+sort_is (Typ a) (Typ b) h = cc
+sort_is Prop Set h = absurd (cc)
+sort_is Prop (Typ b) h = absurd (cc)
+sort_is Set Prop h = absurd (cc)
+sort_is Set (Typ b) h = absurd (cc)
+sort_is (Typ a) Prop h = absurd (cc)
+sort_is (Typ a) Set h = absurd (cc)
+
+-- Two sorts, as terms.
+pub sorts_same : (a b : Term) (s u : Sort) (r : Bool) → a ≡ SortTerm s → b ≡ SortTerm u → r ≡ sorts.eq-value.it s u → IsTrue r ↔ (tree a ≡ tree b)
+sorts_same a b s u r e f h = rw (e, f, h) (
+  λ k. ap (λ z. sort (tree_sort z)) ((sort_equal_decides s u).0 k),
+  λ k. (sort_equal_decides s u).1 (sort_is s u k),
+)

@@ -24,9 +24,3 @@ abbrev mutual
   pub subst_children : ℕ → Tree → Children → Children
   subst_children at with no_child = no_child
   subst_children at with (child b t ks) = child b (subst_tree (over b at) with t) (subst_children at with ks)
-
--- a term with no part that a change of the Rels from `from` on leaves as it is: a Rel below, an id or a sort
-abbrev pub Stays : ℕ → Tree → Type 0
-Stays from (rel n) = (n < from) × (n ≤ 1048576)
-Stays from (node f no_child) = Unit {0}
-Stays from (node f (child b t ks)) = ⊥

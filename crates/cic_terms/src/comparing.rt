@@ -1,7 +1,7 @@
 ghost use Rattle.std.specs.Prelude.{◌↔◌, ◌≡◌, IsTrue, ◌∷◌, []};
 ghost use Rattle.cic_terms.specs.Denotes.{tree, branches, bodies, terms, shapes, shape, body_parts, tree_sort};
-ghost use Rattle.cic_terms.specs.Answer.{SameParts, SameBodies};
-ghost use Rattle.cic_terms.specs.Kinds.{IsCase};
+ghost use Rattle.cic_terms.specs.calls.Answer.{SameParts, SameBodies};
+ghost use Rattle.cic_terms.specs.calls.Kinds.{IsCase};
 
 use crate::term::{Branches, FixBodies, FixBody, Term, Terms};
 
@@ -12,13 +12,13 @@ pub fn same(a: &Term, b: &Term) -> bool
 {
     match (a, b) {
         (Term::Rel(m), Term::Rel(n)) => m == n,
-        (Term::Sort(s), Term::Sort(u)) => s.same(u),
+        (Term::Sort(s), Term::Sort(u)) => s == u,
         (Term::Prod(a, c), Term::Prod(b, d)) => same(a, b) && same(c, d),
         (Term::Lam(a, c), Term::Lam(b, d)) => same(a, b) && same(c, d),
         (Term::App(a, c), Term::App(b, d)) => same(a, b) && same(c, d),
-        (Term::Const(i), Term::Const(j)) => i.same(j),
-        (Term::Ind(i), Term::Ind(j)) => i.same(j),
-        (Term::Ctor(i), Term::Ctor(j)) => i.same(j),
+        (Term::Const(i), Term::Const(j)) => i == j,
+        (Term::Ind(i), Term::Ind(j)) => i == j,
+        (Term::Ctor(i), Term::Ctor(j)) => i == j,
         (
             Term::Let { body, ty, rest },
             Term::Let {
@@ -62,7 +62,7 @@ fn same_case(a: &Term, b: &Term) -> bool
                 branches: branches_b,
             },
         ) => {
-            ind.same(ind_b)
+            ind == ind_b
                 && arity == arity_b
                 && same(motive, motive_b)
                 && same(scrutinee, scrutinee_b)

@@ -1,6 +1,6 @@
 //! Lists of parts that a change makes anew from its first change on. What stands before that is copied only then.
 ghost use Rattle.std.specs.Prelude.{◌≡◌, ◌+◌, ◌<◌, ◌≤◌, ◌++◌, ◌∷◌, [], length, take, IfOk, OnOk, OnErr, Err, Some};
-ghost use Rattle.cic_terms.specs.Answer.{after, so_far, terms_after, body_after, SameParts, AreSame, HasParts, AddsBody, AreWhole};
+ghost use Rattle.cic_terms.specs.calls.Answer.{after, so_far, terms_after, body_after, SameParts, AreSame, HasParts, AddsBody, AreWhole};
 ghost use Rattle.cic_terms.specs.Denotes.{tree, terms, term_list, branch_list};
 ghost use Rattle.cic_terms.specs.Tree.{child, no_child, many, join};
 

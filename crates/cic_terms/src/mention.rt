@@ -1,7 +1,7 @@
 ghost use Rattle.std.specs.Prelude.{◌↔◌, IsTrue, ◌∷◌, []};
 ghost use Rattle.cic_terms.specs.Denotes.{tree, branches, bodies, terms, shapes, shape, body_parts, tree_sort};
 ghost use Rattle.cic_terms.specs.Mentions.{Mentions, ChildrenMention};
-ghost use Rattle.cic_terms.specs.Answer.{PartsMention};
+ghost use Rattle.cic_terms.specs.calls.Answer.{PartsMention};
 
 use crate::term::{Branches, FixBodies, FixBody, Term, Terms};
 use cic_names::GlobalId;
@@ -13,7 +13,7 @@ pub fn mentions(t: &Term, id: &GlobalId) -> bool
 {
     match t {
         Term::Rel(_) | Term::Sort(_) => false,
-        Term::Const(other) | Term::Ind(other) | Term::Ctor(other) => other.same(id),
+        Term::Const(other) | Term::Ind(other) | Term::Ctor(other) => other == id,
         Term::Prod(a, b) | Term::Lam(a, b) | Term::App(a, b) => mentions(a, id) || mentions(b, id),
         Term::Let { body, ty, rest } => mentions(body, id)
             || mentions(ty, id)
@@ -25,7 +25,7 @@ pub fn mentions(t: &Term, id: &GlobalId) -> bool
             branches,
             ..
         } => {
-            ind.same(id)
+            ind == id
                 || mentions(motive, id)
                 || mentions(scrutinee, id)
                 || branches_mention(branches, id)

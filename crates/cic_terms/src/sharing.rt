@@ -1,11 +1,11 @@
 //! Terms made of parts that a change gave anew or left as they are.
 ghost use Rattle.std.specs.Prelude.{◌≡◌, IfOk, OnErr, Err};
-ghost use Rattle.cic_terms.specs.Kinds.{IsLet, IsCase};
-ghost use Rattle.cic_terms.specs.Answer.{after, branches_after, bodies_after, let_after, case_after};
+ghost use Rattle.cic_terms.specs.calls.Kinds.{IsLet, IsCase};
+ghost use Rattle.cic_terms.specs.calls.Answer.{after, branches_after, bodies_after, let_after, case_after};
 ghost use Rattle.cic_terms.specs.Denotes.{tree, branches, bodies, shapes};
 ghost use Rattle.cic_terms.specs.Tree.{rel, prod, lam, app, fix};
 
-use crate::copying::{copy, share};
+use crate::copying::share;
 use crate::term::{Branches, FixBodies, Term, TermFault, copy_id, shared};
 use cic_names::NoMemory;
 use std::alloc::Global;
@@ -31,13 +31,9 @@ pub(crate) fn taken(old: &Term, new: Option<Rc<Term>>) -> Result<Term, TermFault
     ensures ok { IfOk result (λ r. tree r ≡ after (tree old.now) new) }
     ensures err { OnErr result (result ≡ Err TermFault.NoMemory) }
 {
-    let copied = match &new {
-        Some(new) => copy(new),
-        None => copy(old),
-    };
-    match copied {
-        Ok(copied) => Ok(copied),
-        Err(NoMemory) => Err(TermFault::NoMemory),
+    match &new {
+        Some(new) => Ok(Term::clone(new)?),
+        None => Ok(old.clone()?),
     }
 }
 

@@ -3,7 +3,7 @@ use Rattle.cic_terms.specs.declared.term.Branches.{out-Branches}
 use Rattle.cic_terms.specs.declared.term.FixBodies.{out-FixBodies}
 use Rattle.cic_terms.proofs.Children.{drop_at}
 use Rattle.cic_terms.proofs.Rows.{branches-out}
-use Rattle.cic_terms.proofs.Sameness.{branches_length, same_bodies_length, trees_length, differ, same_whole, same_cons, same_head}
+use Rattle.cic_terms.proofs.Sameness.{branches_length, same_bodies_length, trees_length, differ, same_whole, same_cons, same_head, sorts_same}
 use Rattle.cic_terms.proofs.comparing.+same.Goals as goal
 
 pub same_bodies-returns-then-len : goal.same_bodies-returns-then-len
@@ -53,3 +53,6 @@ same_bodies-loop-i-preserved t c =
     let ys = drop_at b.items i c.index-in-loop-i.result.now (omega (arith, c.loop-i-test.true, m, n)) c.index-in-loop-i.ensures in
     let step = same_cons (length a.items) _ _ _ _ _ _ xs ys (c.same_body.ensures.0 c.if-not-same_body.false) in
     (λ h. c.loop-i.invariant.0 (step.1 h), λ s. step.0 (c.loop-i.invariant.1 s))
+
+pub same-returns-in-Sort-Sort : goal.same-returns-in-Sort-Sort
+same-returns-in-Sort-Sort t c = sorts_same _ _ c.in-Sort-Sort.s c.in-Sort-Sort.u _ c.in-Sort-Sort.is-0 c.in-Sort-Sort.is-1 c.eq.ensures

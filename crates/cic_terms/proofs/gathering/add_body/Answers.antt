@@ -1,5 +1,5 @@
 use Rattle.std.proofs.Common.{sym}
-use Rattle.cic_terms.specs.Answer.{body_after}
+use Rattle.cic_terms.specs.calls.Answer.{body_after}
 use Rattle.cic_terms.proofs.gathering.add_body.Goals as goal
 
 pub returns-clause-ok : goal.returns-clause-ok

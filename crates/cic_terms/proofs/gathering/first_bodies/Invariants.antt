@@ -1,5 +1,5 @@
 use Rattle.std.proofs.Common.{take}
-use Rattle.cic_terms.specs.Answer.{AreSame}
+use Rattle.cic_terms.specs.calls.Answer.{AreSame}
 use Rattle.cic_terms.proofs.gathering.first_bodies.Given as goal
 
 abbrev pub invariant-loop-i : goal.invariant-loop-i
