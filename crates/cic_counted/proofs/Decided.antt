@@ -1,7 +1,7 @@
 -- The tests of equality decide equality, of sorts, formers and terms: what a test finds the same is equal, and
 -- each is the same as itself. The counted check compares by these tests, and the rules speak of equality.
 use Rattle.std.proofs.Common.{◌≡◌, ℕ, Bool, true, false, ◌&&◌, ◌↔◌, nat_eq, List, refl, ap, ap₂, ◌∙◌, arith, subst, eq-eqb}
-use Rattle.std.proofs.lemmas.Bool.{eqb-true}
+use Rattle.std.proofs.lemmas.Bool.{eqb-true, and_parts, and_from}
 use Rattle.cic_terms.specs.Tree.{TreeSort, prop, set, typ, own, Shape, Former, SortF, ProdF, LamF, AppF, LetF, ConstF, IndF, CtorF, CaseF, FixF, Binders, none, one, many, more, Tree, rel, node, Children, no_child, child}
 use Rattle.cic_names.specs.declared.name.GlobalId.{GlobalId}
 use Rattle.std.specs.Cmp.Lexicographic.{pointwise, pointwise_decides}
@@ -11,13 +11,6 @@ use Rattle.cic_counted.specs.Sameness.{same_sort, same_shapes, same_former, same
 
 pub false_is_not_true : {X : Type 0} → false ≡ true → X
 false_is_not_true e = absurd (grind arith)
-
-pub both : (a b : Bool) → (a && b) ≡ true → (a ≡ true) × (b ≡ true)
-both true b e = (refl, e)
-both false b e = false_is_not_true e
-
-pub both_true : (a b : Bool) → a ≡ true → b ≡ true → (a && b) ≡ true
-both_true a b p q = rw (p, q) refl
 
 nat_eq-refl : (n : ℕ) → nat_eq n n ≡ true
 nat_eq-refl n = eq-eqb n n refl
@@ -42,9 +35,9 @@ make_shape k domains = record { k = k; domains = domains }
 same_shape_decides : (a b : Shape) → ((nat_eq a.k b.k && nat_eq a.domains b.domains) ≡ true) ↔ (a ≡ b)
 unfolding make_shape
 same_shape_decides a b = (
-  λ e. let p = both (nat_eq a.k b.k) (nat_eq a.domains b.domains) e in
+  λ e. let p = and_parts (nat_eq a.k b.k) (nat_eq a.domains b.domains) e in
       ap₂ make_shape (eqb-true a.k b.k p.0) (eqb-true a.domains b.domains p.1),
-  λ e. both_true _ _ (eq-eqb a.k b.k (ap (λ (z : Shape). z.k) e)) (eq-eqb a.domains b.domains (ap (λ (z : Shape). z.domains) e)),
+  λ e. and_from _ _ (eq-eqb a.k b.k (ap (λ (z : Shape). z.k) e)) (eq-eqb a.domains b.domains (ap (λ (z : Shape). z.domains) e)),
 )
 
 pub same_former-is : (f g : Former) → same_former f g ≡ true → f ≡ g
@@ -58,7 +51,7 @@ same_former-is (IndF a) (IndF b) e = ap IndF ((same_id_decides a b).0 e)
 same_former-is (CtorF a) (CtorF b) e = ap CtorF ((same_id_decides a b).0 e)
 same_former-is (CaseF a) (CaseF b) e = ap CaseF ((same_id_decides a b).0 e)
 same_former-is (FixF i s) (FixF j s') e =
-    let p = both (nat_eq i j) (same_shapes s s') e in
+    let p = and_parts (nat_eq i j) (same_shapes s s') e in
     ap₂ FixF (eqb-true i j p.0) ((pointwise_decides same_shape_decides s s').0 p.1)
 same_former-is _ _ e = false_is_not_true e
 
@@ -73,7 +66,7 @@ same_former-refl (IndF a) = (same_id_decides a a).1 refl
 same_former-refl (CtorF a) = (same_id_decides a a).1 refl
 same_former-refl (CaseF a) = (same_id_decides a a).1 refl
 same_former-refl (FixF i s) =
-    both_true _ _ (nat_eq-refl i) ((pointwise_decides same_shape_decides s s).1 refl)
+    and_from _ _ (nat_eq-refl i) ((pointwise_decides same_shape_decides s s).1 refl)
 
 pub same_binders-is : (a b : Binders) → same_binders a b ≡ true → a ≡ b
 same_binders-is none none e = refl
@@ -92,7 +85,7 @@ mutual
   pub same_tree-is : (t u : Tree) → same_tree t u ≡ true → t ≡ u
   same_tree-is (rel m) (rel n) e = ap rel (eqb-true m n e)
   same_tree-is (node f ks) (node g ls) e =
-      let p = both (same_former f g) (same_children ks ls) e in
+      let p = and_parts (same_former f g) (same_children ks ls) e in
       ap₂ node (same_former-is f g p.0) (same_children-is ks ls p.1)
   same_tree-is (rel m) (node g ls) e = false_is_not_true e
   same_tree-is (node f ks) (rel n) e = false_is_not_true e
@@ -100,8 +93,8 @@ mutual
   pub same_children-is : (ks ls : Children) → same_children ks ls ≡ true → ks ≡ ls
   same_children-is no_child no_child e = refl
   same_children-is (child b t ks) (child c u ls) e =
-      let p = both (same_binders b c && same_tree t u) (same_children ks ls) e in
-      let q = both (same_binders b c) (same_tree t u) p.0 in
+      let p = and_parts (same_binders b c && same_tree t u) (same_children ks ls) e in
+      let q = and_parts (same_binders b c) (same_tree t u) p.0 in
       ap₂ (λ x y. child x y ks) (same_binders-is b c q.0) (same_tree-is t u q.1) ∙ ap (child c u) (same_children-is ks ls p.1)
   same_children-is no_child (child c u ls) e = false_is_not_true e
   same_children-is (child b t ks) no_child e = false_is_not_true e
@@ -109,12 +102,12 @@ mutual
 mutual
   pub same_tree-refl : (t : Tree) → same_tree t t ≡ true
   same_tree-refl (rel n) = nat_eq-refl n
-  same_tree-refl (node f ks) = both_true _ _ (same_former-refl f) (same_children-refl ks)
+  same_tree-refl (node f ks) = and_from _ _ (same_former-refl f) (same_children-refl ks)
 
   pub same_children-refl : (ks : Children) → same_children ks ks ≡ true
   same_children-refl no_child = refl
   same_children-refl (child b t ks) =
-      both_true _ _ (both_true _ _ (same_binders-refl b) (same_tree-refl t)) (same_children-refl ks)
+      and_from _ _ (and_from _ _ (same_binders-refl b) (same_tree-refl t)) (same_children-refl ks)
 
 pub same_tree_decides : (t u : Tree) → (same_tree t u ≡ true) ↔ (t ≡ u)
 same_tree_decides t u = (same_tree-is t u, λ e. subst (λ z. same_tree t z ≡ true) e (same_tree-refl t))

@@ -2,6 +2,7 @@
 -- By one induction on the relations, over that of evaluation; typing needs it.
 use Rattle.std.specs.Prelude.{is_none}
 use Rattle.std.proofs.Common.{Bool, Option, Some, None, ap₂, ◌≡◌, ◌≢◌, ℕ, zero, suc, ◌+◌, ◌-◌, ◌≤◌, max, true, false, ◌&&◌, nat_eq, if◌then◌else◌, List, [], ◌∷◌, length, refl, sym, ap, ◌∙◌, arith, subst}
+use Rattle.std.proofs.lemmas.Bool.{and_parts, and_from}
 use Rattle.cic_terms.specs.Tree.{TreeSort, prop, set, typ, Former, SortF, LamF, LetF, CaseF, FixF, Binders, none, one, over, Tree, rel, node, Children, no_child, child, sort, prod, app}
 use Rattle.cic_terms.specs.Lift.{lift_tree}
 use Rattle.cic_names.specs.declared.level.Level.{Level}
@@ -16,7 +17,7 @@ use Rattle.cic_counted.specs.Outcome.{Budget, done, Counted, follow, ◌>>=◌, 
 use Rattle.cic_counted.specs.Evaluation.{equal_sorts, atoms_below, sorts_at_most, same_places, convert_children, convert_each, fitting_body, convert_bodies, compare, body_of, by_bodies, compare_heads, conv_step, conv_at, below_or_equal, cumul_step, cumul_at, whnf_at, differ}
 use Rattle.cic_counted.specs.calls.Done.{left_after, Cost, free, ◌then◌, called, finds, AllSmall, Evaluates, SortsEqual, same_sorts, levels_equal, AtomsBelow, no_atom, atom_below, SortsBelow, prop_below, set_below_set, set_below_universe, same_universes, levels_below, InOrder, Converts, converts_same, converts_heads, Compares, same_variables, in_order, matches, fixpoints, expands_left, expands_right, ConvertsParts, converts_no_part, converts_part, ConvertsEach, converts_none, converts_more, ConvertsBodies, converts_no_body, converts_body, Cumulates, cumulates_same, cumulates_heads, Below, products_below, sorts_below, compared}
 use Rattle.cic_counted.specs.calls.Done as D
-use Rattle.cic_counted.proofs.Decided.{both, both_true, same_binders-is}
+use Rattle.cic_counted.proofs.Decided.{same_binders-is}
 use Rattle.cic_counted.proofs.Runs.{left_free, left_then, whnf_runs, made, max_left, max_right, along}
 
 -- Done without a value, at a cost, at every budget that suffices.
@@ -95,10 +96,10 @@ in_order_at conv G (CaseF id) g ks ls c o sf sp h = absurd o
 in_order_at conv G (FixF i s) g ks ls c o sf sp h = absurd o
 in_order_at conv G LetF g ks ls c o sf sp h = absurd o
 in_order_at conv G (SortF s) (SortF s') no_child no_child c o sf sp h = λ b p. same_sorts_at G s s' b sf ∙ h b p
-in_order_at conv G (SortF s) (SortF s') (child x t ks) ls c o sf sp h = tested conv G (SortF s) (SortF s') (child x t ks) ls c (both_true (same_sort s s') (same_places (child x t ks) ls) sf sp) h
+in_order_at conv G (SortF s) (SortF s') (child x t ks) ls c o sf sp h = tested conv G (SortF s) (SortF s') (child x t ks) ls c (and_from (same_sort s s') (same_places (child x t ks) ls) sf sp) h
 in_order_at conv G (SortF s) (SortF s') no_child (child x t ls) c o sf sp h = absurd (grind arith)
 in_order_at conv G (SortF s) g ks ls c o sf sp h = absurd (grind arith)
-in_order_at conv G f g ks ls c o sf sp h = tested conv G f g ks ls c (both_true (same_former f g) (same_places ks ls) sf sp) h
+in_order_at conv G f g ks ls c o sf sp h = tested conv G f g ks ls c (and_from (same_former f g) (same_places ks ls) sf sp) h
 
 -- Two terms with the same former and the same numbers of binders are both abstractions, or neither is.
 places : Children → List Binders
@@ -113,7 +114,7 @@ places_alike : (ks ls : Children) → same_places ks ls ≡ true → places ks �
 unfolding places
 places_alike no_child no_child e = refl
 places_alike (child b t ks) (child c u ls) e =
-    let p = both (same_binders b c) (same_places ks ls) e in
+    let p = and_parts (same_binders b c) (same_places ks ls) e in
     ap₂ ◌∷◌ (same_binders-is b c p.0) (places_alike ks ls p.1)
 places_alike no_child (child c u ls) e = absurd (grind arith)
 places_alike (child b t ks) no_child e = absurd (grind arith)
@@ -163,10 +164,10 @@ module _ (E : Environment) where
     compares_run (D.equal_sorts {G = G} h) k = λ d. sorts_run G h
     compares_run (in_order {G = G} {f = f} {g = g} {ks = ks} {ls = ls} {c = c} o sf sp h) k = λ d. both_or_none (conv_at k E) G f g ks ls c sf sp (in_order_at (conv_at k E) G f g ks ls c o sf sp (parts_run h k d))
     compares_run (matches {G = G} {id = id} {id' = id'} {ks = ks} {ls = ls} i sp h) k = λ d b p.
-        rw (both_true (same_id id id') (same_places ks ls) i sp) (parts_run h k d b p)
+        rw (and_from (same_id id id') (same_places ks ls) i sp) (parts_run h k d b p)
     compares_run (fixpoints {G = G} {i = i} {j = j} {shapes = shapes} {shapes' = shapes'} {ks = ks} {ls = ls} {c = c} {d = d} fs gs p q x y he hb kq) k =
         along (λ z. z.depth ≤ k → DoneAt (compare_heads (conv_at k E) G (node (FixF i shapes) ks) (node (FixF j shapes') ls)) z) kq (λ l b r.
-        rw (both_true (nat_eq i j) (same_shapes shapes shapes') p q, x, y)
+        rw (and_from (nat_eq i j) (same_shapes shapes shapes') p q, x, y)
         (in_row (convert_each (conv_at k E) G (function_types fs) (function_types gs)) (convert_bodies (conv_at k E) (under_unknown (length fs) G) (length fs) fs gs) c d
         (each_run he k (max_left c.depth d.depth k l)) (bodies_run hb k (max_right c.depth d.depth k l)) b r))
     compares_run (expands_left {G = G} {v = v} {w = w} {t = t} {c = c} p q f h) k = λ d b r.

@@ -3,6 +3,7 @@
 use Rattle.std.proofs.Common.{◌≡◌, ℕ, zero, suc, ◌+◌, ◌-◌, ◌≤◌, max, Bool, true, ◌&&◌, nat_eq, if◌then◌else◌, Option, Some, None, List, [], ◌∷◌, ◌++◌, length, take, drop, refl, sym, ap, ◌∙◌, arith, subst, eq-eqb}
 use Rattle.std.specs.Prelude.{option_map}
 use Rattle.std.proofs.lemmas.List.{append_assoc}
+use Rattle.std.proofs.lemmas.Bool.{and_from}
 use Rattle.cic_terms.specs.Tree.{TreeSort, Shape, Tree, Children, child, sort, prod, lam, let_in, app, ind, case, fix}
 use Rattle.cic_terms.specs.Lift.{lift_tree, subst_tree}
 use Rattle.cic_names.specs.declared.name.GlobalId.{GlobalId}
@@ -21,7 +22,6 @@ use Rattle.cic_rules.specs.Typing.{function_entries}
 use Rattle.cic_names.specs.Orders.{insert_constraints}
 use Rattle.cic_counted.specs.calls.Done.{left_after, Cost, free, ◌then◌, called, AllSmall}
 use Rattle.cic_counted.specs.calls.DoneTyping.{SmallEntries, Infers, infers, Checks, checks, SortOf, sorts_of, Exposes, exposes_itself, exposes_another, HasInferred, infers_variable, infers_prop, infers_set, infers_universe, infers_product, infers_abstraction, infers_let, infers_application, infers_constant, infers_type, infers_constructor, infers_match, infers_fix, Eliminates, eliminates_freely, eliminates_nothing, eliminates_propositions, AllPropositions, no_more, proposition, ChecksBranches, no_branch_left, checks_branch, SortsEach, sorts_none, sorts_one_more, ChecksBodies, no_body_left, checks_body}
-use Rattle.cic_counted.proofs.Decided.{both_true}
 use Rattle.cic_counted.proofs.Runs.{left_free, left_then, whnf_runs, made, max_left, max_right, along}
 use Rattle.cic_counted.proofs.RunsConversion.{fitting_at, fitting_all_at, body_at, cumulates_run}
 
@@ -180,8 +180,8 @@ module _ (E : Environment) (k : ℕ) (calls : Calls)
       (before_at (or_refuse (element place.block.types place.index) _) _ t T (c then (d then (e then (f then g)))) (λ b. or_refuse_at (element place.block.types place.index) _ t b is_type)
       (after_at (calls.infer G v) _ F T c (d then (e then (f then g))) (infer_runs hi lc)
       (after_at (expose (whnf_at k E G) calls G F) _ V T d (e then (f then g)) (exposes_run he ld)
-      (before_at (require (same_tree (head_of V) (ind id) && nat_eq (length (arguments_of V)) (place.block.parameters + index_count place.block.parameters t)) _) _ tt T (e then (f then g)) (λ b. require_at _ _ b (both_true _ _ hh (eq-eqb _ _ hl)))
-      (before_at (require (nat_eq n (index_count place.block.parameters t) && are_branches place.block.parameters t.constructors branches) _) _ tt T (e then (f then g)) (λ b. require_at _ _ b (both_true _ _ (eq-eqb _ _ hn) hb))
+      (before_at (require (same_tree (head_of V) (ind id) && nat_eq (length (arguments_of V)) (place.block.parameters + index_count place.block.parameters t)) _) _ tt T (e then (f then g)) (λ b. require_at _ _ b (and_from _ _ hh (eq-eqb _ _ hl)))
+      (before_at (require (nat_eq n (index_count place.block.parameters t) && are_branches place.block.parameters t.constructors branches) _) _ tt T (e then (f then g)) (λ b. require_at _ _ b (and_from _ _ (eq-eqb _ _ hn) hb))
       (before_at _ _ (domains_of (instantiate (take place.block.parameters (arguments_of V)) t.arity)) T (e then (f then g)) (λ b. fitting_all_at _ b sd)
       (before_at _ _ (lift_all (index_count place.block.parameters t) (take place.block.parameters (arguments_of V))) T (e then (f then g)) (λ b. fitting_all_at _ b sl)
       (after_at _ _ s T e (f then g) (sort_runs hs le)

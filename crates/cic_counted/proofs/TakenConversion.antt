@@ -1,6 +1,7 @@
 -- What conversion and subtyping are done with stands in the relation, with its cost. By induction on the depth, over
 -- that of evaluation; the laws of conversion are proved by induction on the relation.
 use Rattle.std.proofs.Common.{◌≡◌, ◌≢◌, ℕ, zero, suc, ◌≤◌, Bool, true, false, ◌&&◌, nat_eq, if◌then◌else◌, Option, Some, None, List, [], ◌∷◌, length, refl, sym, ap, ap₂, ◌∙◌, arith, subst}
+use Rattle.std.proofs.lemmas.Bool.{and_parts, and_from}
 use Rattle.cic_terms.specs.Tree.{TreeSort, prop, set, typ, Shape, Former, LetF, CaseF, FixF, over, Tree, rel, node, Children, no_child, child, sort, prod, app}
 use Rattle.cic_terms.specs.Lift.{lift_tree}
 use Rattle.cic_names.specs.declared.level.Level.{Level}
@@ -17,7 +18,6 @@ use Rattle.cic_counted.specs.Outcome.{Budget, done, Counted, follow, ◌>>=◌, 
 use Rattle.cic_counted.specs.Evaluation.{equal_levels, equal_sorts, atoms_below, levels_at_most, sorts_at_most, same_places, convert_children, convert_each, fitting_body, convert_bodies, convert_functions, value_first, compare_nodes, compare, body_of, by_bodies, compare_heads, conv_step, conv_at, below_or_equal, cumul_step, cumul_at, whnf_at, differ}
 use Rattle.cic_counted.specs.calls.Done.{Cost, free, ◌then◌, called, finds, Took, AllSmall, Evaluates, SortsEqual, same_sorts, levels_equal, AtomsBelow, no_atom, atom_below, SortsBelow, prop_below, set_below_set, set_below_universe, same_universes, levels_below, InOrder, Converts, converts_same, converts_heads, Compares, same_variables, in_order, matches, fixpoints, expands_left, expands_right, ConvertsParts, converts_no_part, converts_part, ConvertsEach, converts_none, converts_more, ConvertsBodies, converts_no_body, converts_body, Cumulates, cumulates_same, cumulates_heads, Below, products_below, sorts_below, compared, Converted, Cumulated}
 use Rattle.cic_counted.specs.calls.Done as D
-use Rattle.cic_counted.proofs.Decided.{both, both_true}
 use Rattle.cic_counted.proofs.Taken.{took_free, took_then, follow_done, done_value, done_rest, fitting_done, max_le, whnf_done}
 
 -- Done at a cost in a relation, with at most k calls open.
@@ -110,7 +110,7 @@ shapes_length : (ss ts : List Shape) → same_shapes ss ts ≡ true → length s
 shapes_length [] [] e = refl
 shapes_length [] (t ∷ ts) e = absurd (grind arith)
 shapes_length (s ∷ ss) [] e = absurd (grind arith)
-shapes_length (s ∷ ss) (t ∷ ts) e = ap suc (shapes_length ss ts (both (nat_eq s.k t.k && nat_eq s.domains t.domains) (same_shapes ss ts) e).1)
+shapes_length (s ∷ ss) (t ∷ ts) e = ap suc (shapes_length ss ts (and_parts (nat_eq s.k t.k && nat_eq s.domains t.domains) (same_shapes ss ts) e).1)
 
 length-types : (fs : List Function) → length (function_types fs) ≡ length fs
 length-types [] = refl
@@ -124,9 +124,9 @@ places_value_first : (ks ls : Children) → same_places ks ls ≡ true → same_
 places_value_first no_child no_child e = refl
 places_value_first (child b t no_child) (child c u no_child) e = e
 places_value_first (child b t (child b' t' ks)) (child c u (child c' u' ls)) e =
-    let p = both (same_binders b c) (same_binders b' c' && same_places ks ls) e in
-    let q = both (same_binders b' c') (same_places ks ls) p.1 in
-    both_true _ _ q.0 (both_true _ _ p.0 q.1)
+    let p = and_parts (same_binders b c) (same_binders b' c' && same_places ks ls) e in
+    let q = and_parts (same_binders b' c') (same_places ks ls) p.1 in
+    and_from _ _ q.0 (and_from _ _ p.0 q.1)
 places_value_first no_child (child c u ls) e = absurd (grind arith)
 places_value_first (child b t ks) no_child e = absurd (grind arith)
 places_value_first (child b t no_child) (child c u (child c' u' ls)) e = absurd (second_false (same_binders b c) e)
@@ -139,7 +139,7 @@ module _ (E : Environment) (k : ℕ) (conv : Context → Tree → Tree → Count
   parts_done G (child x t ks) (child y t' ls) u b b' q h =
       let i = follow_done (conv (under_unknown (over x 0) G) t t' b) (λ _. convert_children conv G ks ls) u b' h in
       let c = calls (under_unknown (over x 0) G) t t' i.0 b i.1 i.2 in
-      let r = parts_done G ks ls u i.1 b' (both (same_binders x y) (same_places ks ls) q).1 i.3 in
+      let r = parts_done G ks ls u i.1 b' (and_parts (same_binders x y) (same_places ks ls) q).1 i.3 in
       (c.0 then r.0, converts_part c.1 r.1 refl, max_le _ _ k c.2 r.2, took_then c.3 r.3)
   parts_done G no_child (child y t' ls) u b b' q h = absurd (grind arith)
   parts_done G (child x t ks) no_child u b b' q h = absurd (grind arith)
@@ -183,7 +183,7 @@ module _ (E : Environment) (k : ℕ) (conv : Context → Tree → Tree → Count
 
   in_order_done : (G : Context) (f g : Former) (ks ls : Children) (u : Unit {0}) (b b' : Budget) → InOrder f → (test : Bool) → (same_former f g && same_places ks ls) ≡ test → (if test then convert_children conv G ks ls else differ G (node f ks) (node g ls)) b ≡ done u b' → At k (Compares E G (node f ks) (node g ls)) b b'
   in_order_done G f g ks ls u b b' o true q h =
-      let p = both (same_former f g) (same_places ks ls) q in
+      let p = and_parts (same_former f g) (same_places ks ls) q in
       let r = parts_done G ks ls u b b' p.1 h in
       (r.0, in_order o p.0 p.1 r.1, r.2, r.3)
   in_order_done G f g ks ls u b b' o false q h = absurd (grind arith)
@@ -193,7 +193,7 @@ module _ (E : Environment) (k : ℕ) (conv : Context → Tree → Tree → Count
     where
       cases : (test : Bool) → (same_id c d && same_places ks ls) ≡ test → (if test then convert_children conv G (value_first ks) (value_first ls) else differ G (node (CaseF c) ks) (node (CaseF d) ls)) b ≡ done u b' → At k (Compares E G (node (CaseF c) ks) (node (CaseF d) ls)) b b'
       cases true q h =
-          let p = both (same_id c d) (same_places ks ls) q in
+          let p = and_parts (same_id c d) (same_places ks ls) q in
           let r = parts_done G (value_first ks) (value_first ls) u b b' (places_value_first ks ls p.1) h in
           (r.0, matches p.0 p.1 r.1, r.2, r.3)
       cases false q h = absurd (grind arith)
@@ -201,7 +201,7 @@ module _ (E : Environment) (k : ℕ) (conv : Context → Tree → Tree → Count
     where
       cases : (test : Bool) → (nat_eq i j && same_shapes s s') ≡ test → (if test then convert_functions conv G (node (FixF i s) ks) (node (FixF j s') ls) (functions_of s ks) (functions_of s' ls) else differ G (node (FixF i s) ks) (node (FixF j s') ls)) b ≡ done u b' → At k (Compares E G (node (FixF i s) ks) (node (FixF j s') ls)) b b'
       cases true q h =
-          let p = both (nat_eq i j) (same_shapes s s') q in
+          let p = and_parts (nat_eq i j) (same_shapes s s') q in
           functions_done G i j s s' ks ls u b b' p.0 p.1 _ _ refl refl h
       cases false q h = absurd (grind arith)
   nodes_done G LetF g ks ls u b b' h = absurd (grind arith)

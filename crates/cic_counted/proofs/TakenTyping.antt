@@ -2,7 +2,7 @@
 -- the depth, over evaluation and subtyping; the soundness of inference is proved by induction on the relation.
 use Rattle.std.proofs.Common.{◌≡◌, ℕ, zero, suc, ◌+◌, ◌≤◌, max, Bool, true, false, not, ◌&&◌, ◌||◌, nat_eq, if◌then◌else◌, Option, Some, None, List, [], ◌∷◌, ◌++◌, length, take, drop, refl, sym, ap, ◌∙◌, arith, subst}
 use Rattle.std.specs.Prelude.{option_map}
-use Rattle.std.proofs.lemmas.Bool.{eqb-true}
+use Rattle.std.proofs.lemmas.Bool.{eqb-true, and_parts}
 use Rattle.cic_terms.specs.Tree.{TreeSort, prop, set, typ, own, Shape, Tree, rel, Children, no_child, child, sort, prod, lam, let_in, app, const, ind, ctor, case, fix}
 use Rattle.cic_terms.specs.Lift.{lift_tree}
 use Rattle.cic_names.specs.declared.name.GlobalId.{GlobalId}
@@ -20,7 +20,6 @@ use Rattle.cic_counted.specs.Inference.{product_sort, Calls, Product, as_sort, a
 use Rattle.cic_rules.specs.Typing.{function_entries}
 use Rattle.cic_counted.specs.calls.Done.{Cost, free, ◌then◌, called, Took, AllSmall, Evaluates, Cumulates}
 use Rattle.cic_counted.specs.calls.DoneTyping.{SmallEntries, Infers, infers, Checks, checks, SortOf, sorts_of, Exposes, exposes_itself, exposes_another, HasInferred, infers_variable, infers_prop, infers_set, infers_universe, infers_product, infers_abstraction, infers_let, infers_application, infers_constant, infers_type, infers_constructor, infers_match, infers_fix, Eliminates, eliminates_freely, eliminates_nothing, eliminates_propositions, AllPropositions, no_more, proposition, ChecksBranches, no_branch_left, checks_branch, SortsEach, sorts_none, sorts_one_more, ChecksBodies, no_body_left, checks_body}
-use Rattle.cic_counted.proofs.Decided.{both}
 use Rattle.cic_counted.proofs.Taken.{took_free, took_then, follow_done, done_value, done_rest, fitting_done, max_le, whnf_done}
 use Rattle.cic_counted.proofs.TakenConversion.{At, at_free, fitting_all_done, body_done, cumul_done}
 
@@ -143,7 +142,7 @@ module _ (E : Environment) (k : ℕ) (calls : Calls)
       let g = fitting_done (branch_goal a ps p c) j.0 i.1 j.1 j.2 in
       let h = follow_done (calls.check (extend G i.0) t j.0 j.1) _ u b' j.3 in
       let call = check_calls (extend G i.0) t j.0 h.0 j.1 h.1 h.2 in
-      let rest = branches_done G r a ps p cs ks u h.1 b' (both _ (are_branches r cs ks) l).1 h.3 in
+      let rest = branches_done G r a ps p cs ks u h.1 b' (and_parts _ (are_branches r cs ks) l).1 h.3 in
       let checked : Checks E (extend G (domains_of (instantiate ps c.type))) t (branch_goal a ps p c) call.0 =
       subst (λ z. Checks E (extend G z) t (branch_goal a ps p c) call.0) (sym f.1) (subst (λ z. Checks E (extend G i.0) t z call.0) (sym g.1) call.1) in
       (call.0 then rest.0, checks_branch f.0 g.0 checked rest.1 refl, max_le _ _ k call.2 rest.2, took_then (moved_back (f.2 ∙ g.2) call.3) rest.3)
@@ -206,10 +205,10 @@ module _ (E : Environment) (k : ℕ) (calls : Calls)
   from_value G id n p v F V T branches place t r a c d b b1 b' found shaped is_type is_r is_a inf exp nesting took e =
       let i = follow_done (require (same_tree (head_of V) (ind id) && nat_eq (length (arguments_of V)) (r + a)) _ b1) _ T b' e in
       let q = require_done (same_tree (head_of V) (ind id) && nat_eq (length (arguments_of V)) (r + a)) _ i.0 b1 i.1 i.2 in
-      let h = both (same_tree (head_of V) (ind id)) (nat_eq (length (arguments_of V)) (r + a)) q.0 in
+      let h = and_parts (same_tree (head_of V) (ind id)) (nat_eq (length (arguments_of V)) (r + a)) q.0 in
       let j = follow_done (require (nat_eq n a && are_branches r t.constructors branches) _ i.1) _ T b' i.3 in
       let q' = require_done (nat_eq n a && are_branches r t.constructors branches) _ j.0 i.1 j.1 j.2 in
-      let h' = both (nat_eq n a) (are_branches r t.constructors branches) q'.0 in
+      let h' = and_parts (nat_eq n a) (are_branches r t.constructors branches) q'.0 in
       from_motive G id r a t (take r (arguments_of V)) (domains_of (instantiate (take r (arguments_of V)) t.arity)) (lift_all a (take r (arguments_of V))) p
       (substitute_all (drop r (arguments_of V) ++ v ∷ []) p) T branches (HasInferred E G (case id n p v branches)) (c then d) b j.1 b'
       (λ s e f g small small' motive el br fits. infers_match r a (take r (arguments_of V)) found shaped is_type is_r is_a inf exp h.0 (eqb-true (length (arguments_of V)) (r + a) h.1) refl (eqb-true n a h'.0) h'.1 small small' motive el br refl fits refl)

@@ -1,61 +1,24 @@
-ghost use Rattle.std.specs.Prelude.{◌≡◌, ◌≤◌, ◌↔◌, ◌≢◌, ℕ, [], ◌∷◌, true, List, length, Option, Some};
-ghost use Rattle.cic_terms.specs.Tree.{TreeSort, prop, set, typ, Tree, sort, prod, const};
-ghost use Rattle.cic_names.specs.declared.name.GlobalId.{GlobalId};
-ghost use Rattle.cic_names.specs.declared.level.LevelName.{LevelName};
-ghost use Rattle.cic_names.specs.declared.level.Level.TheVariants as Level;
+ghost use Rattle.std.specs.Prelude.{◌≡◌, ◌≤◌, ◌↔◌, ℕ, [], ◌∷◌, true, List, length, Some};
+ghost use Rattle.cic_terms.specs.Tree.{TreeSort, set, Tree, sort, prod};
 ghost use Rattle.cic_counted.specs.Sameness.{same_tree};
-ghost use Rattle.cic_rules.specs.Numbering.{Numbering, IsNumbering, Meets, MeetsAll, sort_number};
-ghost use Rattle.cic_rules.specs.Environment.{Environment, Context, TypeDeclaration, ConstructorDeclaration, opaque, declared};
-ghost use Rattle.cic_rules.specs.Telescopes.{Function, fixpoint, function_parts, function_shapes, products};
+ghost use Rattle.cic_rules.specs.Numbering.{Numbering, Meets, MeetsAll};
+ghost use Rattle.cic_rules.specs.Environment.{Environment, Context};
+ghost use Rattle.cic_rules.specs.Telescopes.{Function, fixpoint, function_parts, function_shapes};
 ghost use Rattle.cic_names.specs.declared.constraint.Constraint.{Constraint};
 ghost use Rattle.cic_names.specs.Orders.{insert_constraint};
-ghost use Rattle.cic_rules.specs.Step.{Step};
-ghost use Rattle.cic_rules.specs.Conversion.{Convertible, AtMost};
 ghost use Rattle.cic_counted.specs.Readings.{functions_of};
 ghost use Rattle.cic_counted.specs.PlainPositivity.{PositiveBlock};
-ghost use Rattle.cic_rules.specs.Guard.{Guarded};
 ghost use Rattle.cic_counted.specs.Outcome.{Budget, done};
 ghost use Rattle.cic_counted.specs.Evaluation.{conv_at, cumul_at, whnf_at};
 ghost use Rattle.cic_counted.specs.calls.Done.{left_after, Converted, Converts, Cost, Cumulated, Cumulates, Evaluated, Evaluates};
 ghost use Rattle.cic_counted.specs.calls.DoneTyping.{Checked, Checks, Inferred, Infers, SortOf, Sorted};
 ghost use Rattle.cic_counted.specs.Inference.{calls_at};
-ghost use Rattle.cic_rules.specs.Typing.{Derivation, Eliminated};
-ghost use Rattle.cic_counted.specs.calls.Examples.{bad_block, f_function, N, nat, with_N, zero_function};
-
-/// Sorts with different numbers are not convertible; so two universes with different numbers are not.
-pub fn convertible_sorts_have_one_number()
-    ensures { (E : Environment) (N : Numbering) (G : Context) (s s' : TreeSort) → Convertible E N G (sort s) (sort s') → sort_number N s ≡ sort_number N s' }
-{}
-
-/// Products are not compared by their domains: a product over one sort is not at most a product over
-/// another that is not convertible with it, also where the other is smaller.
-pub fn no_subtyping_in_domains()
-    ensures { (E : Environment) (N : Numbering) (G : Context) (s s' : TreeSort) (b c : Tree) → (¬ Convertible E N G (sort s) (sort s')) → ¬ AtMost E N G (prod (sort s) b) (prod (sort s') c) }
-{}
-
-/// A proposition with two constructors or more is not eliminated into `Set`.
-pub fn no_large_elimination()
-    ensures { (E : Environment) (N : Numbering) (r : ℕ) (T : TypeDeclaration) (domains : List Tree) (c d : ConstructorDeclaration) (cs : List ConstructorDeclaration) → T.arity ≡ products domains (sort prop) → T.constructors ≡ c ∷ d ∷ cs → ¬ Eliminated E N r T set }
-{}
-
-/// A fixpoint that calls itself on its own variable is not guarded.
-pub fn call_on_itself_is_not_guarded()
-    ensures { (E : Environment) → ¬ Guarded E (f_function ∷ []) }
-{}
+ghost use Rattle.cic_rules.specs.Typing.{Derivation};
+ghost use Rattle.cic_counted.specs.calls.Examples.{bad_block, N, nat, with_N, zero_function};
 
 /// A type that stands left of an arrow in an argument of its constructor is not strictly positive.
 pub fn left_of_an_arrow_is_not_positive()
     ensures { ¬ PositiveBlock bad_block }
-{}
-
-/// An opaque constant takes no step, whether its body is there or not.
-pub fn opaque_takes_no_step()
-    ensures { (E : Environment) (G : Context) (id : GlobalId) (type t : Tree) (body : Option Tree) → ¬ Step (declared (opaque id type body) ∷ E) G (const id) t }
-{}
-
-/// A named level is above `Set` at every numbering.
-pub fn named_levels_are_above_set()
-    ensures { (N : Numbering) (l : LevelName) → IsNumbering N → Meets N (record { left = Level.Set; strict = true; right = Level.Named l }) }
 {}
 
 /// A derivation of the rules: a fixpoint with a match, whose codomain is unfolded.

@@ -8,7 +8,8 @@ use Rattle.cic_terms.specs.Tree.{Tree, rel}
 use Rattle.cic_terms.specs.Lift.{lift_tree, subst_rel, subst_tree}
 use Rattle.cic_metatheory.specs.Substitution.{rename, substitute, lifted_variable}
 use Rattle.cic_metatheory.proofs.substitutions.Composition.{rename_rename, rename_identity, rename_as_substitute, substitute_rename, rename_substitute, substitute_substitute}
-use Rattle.cic_metatheory.proofs.substitutions.LiftAndSubst.{lift_renames_variables, subst_substitutes_variables, subst_below, subst_here, subst_above}
+use Rattle.cic_metatheory.proofs.substitutions.LiftAndSubst.{lift_renames_variables, subst_substitutes_variables}
+use Rattle.cic_terms.proofs.LiftSubst.{subst_below, subst_here, subst_above}
 
 -- Lifts
 pub lift_none : (from : ℕ) (t : Tree) → lift_tree from 0 t ≡ t

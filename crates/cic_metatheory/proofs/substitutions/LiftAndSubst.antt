@@ -7,6 +7,7 @@ use Rattle.std.proofs.lemmas.Bool.{cases_lt}
 use Rattle.cic_terms.specs.Tree.{Tree, rel, node, Children, no_child, child, over}
 use Rattle.cic_terms.specs.Lift.{lift_tree, lift_children, subst_rel, subst_tree, subst_children}
 use Rattle.cic_terms.proofs.Laws.{over_adds}
+use Rattle.cic_terms.proofs.LiftSubst.{subst_below, subst_here, subst_above}
 use Rattle.cic_metatheory.specs.Substitution.{renaming_under_one, renaming_under, rename, rename_children, substitution_under_one, substitution_under, substitute, substitute_children, for_innermost, lifted_variable}
 use Rattle.cic_metatheory.proofs.substitutions.Composition.{rename_rename, rename_identity, substitute_rename, substitute_identity, rename_substitute, substitute_substitute, substitute_substitute_under}
 
@@ -57,16 +58,6 @@ lift_by_one_more by t =
     lift_adds (suc by) t
     ∙ sym (rename_rename t suc (λ x. x + by) (λ x. x + suc by) (λ x. omega arith))
     ∙ ap (rename suc) (sym (lift_adds by t))
-
--- What each variable becomes
-pub subst_below : (at : ℕ) (u : Tree) (x : ℕ) → x < at → subst_rel at u x ≡ rel x
-subst_below at u x h = grind (arith, nat_tests)
-
-pub subst_here : (at : ℕ) (u : Tree) (x : ℕ) → x ≡ at → subst_rel at u x ≡ lift_tree 0 at u
-subst_here at u x h = grind (arith, nat_tests)
-
-pub subst_above : (at : ℕ) (u : Tree) (x : ℕ) → at < x → subst_rel at u x ≡ rel (x - 1)
-subst_above at u x h = grind (arith, nat_tests)
 
 -- Substitution under binders
 put_past_binder : (at : ℕ) (u : Tree) (x : ℕ) → rename suc (subst_rel at u x) ≡ subst_rel (suc at) u (suc x)

@@ -4,7 +4,7 @@
 use Rattle.std.proofs.Common.{◌≡◌, ◌⊎◌, inl, inr, ℕ, zero, suc, ◌+◌, ◌<◌, ◌≤◌, Bool, true, false, not, ◌&&◌, ◌||◌, Option, Some, None, List, [], ◌∷◌, ◌++◌, length, take, drop, refl, sym, ap, ap₂, ◌∙◌, arith, subst, Contains}
 use Rattle.std.specs.Prelude.{is_none}
 use Rattle.std.specs.List.{list_any}
-use Rattle.std.proofs.lemmas.Bool.{not-true, eqb-true, leb-true}
+use Rattle.std.proofs.lemmas.Bool.{not-true, eqb-true, leb-true, or_right, and_parts}
 use Rattle.std.proofs.lemmas.List.{length-map, take-append-drop, length-take-le, length-append}
 use Rattle.cic_terms.specs.Tree.{Former, ConstF, IndF, CtorF, CaseF, Tree, rel, node, Children, no_child, child, sort, prod, ind}
 use Rattle.cic_terms.specs.Mentions.{Names, ChildrenMention}
@@ -22,7 +22,7 @@ use Rattle.cic_rules.specs.Nested as N
 use Rattle.cic_counted.specs.Outcome.{is_small}
 use Rattle.cic_counted.specs.BlockTests.{is_type_among, ShapeFault, shape_fault, same_trees, is_shaped, former_has, occurs, occurs_in_children, occurs_in_any, is_applied_among, is_strictly_positive}
 use Rattle.cic_counted.specs.NestedTest.{same_instance, are_small, are_small_instances, is_arity_length, is_instance, is_nested, is_positive_step, is_conclusion, are_positive_arguments, are_positive_constructors, are_positive_types, is_positive_at, is_nested_positive}
-use Rattle.cic_counted.proofs.Decided.{both, false_is_not_true, ids-is, trees-is}
+use Rattle.cic_counted.proofs.Decided.{false_is_not_true, ids-is, trees-is}
 use Rattle.cic_names.proofs.Equality.{same_id_decides}
 use Rattle.cic_metatheory.proofs.basics.ConstructorTypes.{shape_is_type}
 use Rattle.cic_soundness.proofs.evaluations.Readings.{apply_head}
@@ -41,10 +41,6 @@ both_fail : (a b : Bool) → (a || b) ≡ false → (a ≡ false) × (b ≡ fals
 both_fail true b e = false_is_not_true (sym e)
 both_fail false b e = (refl, e)
 
-pub second_holds : (a b : Bool) → b ≡ true → (a || b) ≡ true
-second_holds true b e = refl
-second_holds false b e = e
-
 -- Ids among others
 pub among : (ids : List GlobalId) (id : GlobalId) → is_among id ids ≡ true → Contains ids id
 among [] id e = false_is_not_true e
@@ -57,7 +53,7 @@ pub found_among : (ids : List GlobalId) (id : GlobalId) → Contains ids id → 
 found_among [] id h = absurd (contains_none id h)
 found_among (x ∷ ids) id h = elim (contains_cases x id ids h) [
   | inl e ↦ ap (λ test. test || is_among id ids) (ap (same_id id) e ∙ (same_id_decides id id).1 refl)
-  | inr k ↦ second_holds (same_id id x) (is_among id ids) (found_among ids id k)
+  | inr k ↦ or_right (same_id id x) (is_among id ids) (found_among ids id k)
 ]
 
 -- Terms in which none of the ids occurs
@@ -95,7 +91,7 @@ pub absent_or_applied : (ids : List GlobalId) (t : Tree) → (not (occurs ids t)
 absent_or_applied ids t e = elim (either (not (occurs ids t)) (is_applied_among ids t) e) [
   | inl h ↦ absent (is_absent ids t (not-true (occurs ids t) h))
   | inr h ↦
-      let p = both (is_type_among ids (head_of t)) (not (occurs_in_any ids (arguments_of t))) h in
+      let p = and_parts (is_type_among ids (head_of t)) (not (occurs_in_any ids (arguments_of t))) h in
       let q = type_among ids (head_of t) p.0 in
       applied q.0 (arguments_of t) (sym (apply_head t) ∙ ap (λ f. apply f (arguments_of t)) q.1) q.2
       (each_absent ids (arguments_of t) (not-true (occurs_in_any ids (arguments_of t)) p.1))
@@ -105,7 +101,7 @@ pub strictly_positive : (ids : List GlobalId) (t : Tree) → is_strictly_positiv
 strictly_positive ids (prod a b) e = elim (either (not (occurs ids (prod a b))) (not (occurs ids a) && is_strictly_positive ids b) e) [
   | inl h ↦ absent (is_absent ids (prod a b) (not-true (occurs ids (prod a b)) h))
   | inr h ↦
-      let p = both (not (occurs ids a)) (is_strictly_positive ids b) h in
+      let p = and_parts (not (occurs ids a)) (is_strictly_positive ids b) h in
       in_codomain (is_absent ids a (not-true (occurs ids a) p.0)) (strictly_positive ids b p.1)
 ]
 strictly_positive ids t e = absent_or_applied ids t e
@@ -113,16 +109,16 @@ strictly_positive ids t e = absent_or_applied ids t e
 -- Terms within the limits
 small_within : (t : Tree) → is_small t ≡ true → WithinLimits t
 small_within t e =
-    let p = both _ _ e in
+    let p = and_parts _ _ e in
     record { depth = leb-true (depth_tree t) 4000 p.0; rels = leb-true (max_rel t) 1048576 p.1 }
 
 all_within : (ts : List Tree) → are_small ts ≡ true → Each WithinLimits ts
 all_within [] e = tt
-all_within (t ∷ ts) e = let p = both (is_small t) (are_small ts) e in (small_within t p.0, all_within ts p.1)
+all_within (t ∷ ts) e = let p = and_parts (is_small t) (are_small ts) e in (small_within t p.0, all_within ts p.1)
 
 instances_within : (L : List Instance) → are_small_instances L ≡ true → InstancesWithinLimits L
 instances_within [] e = tt
-instances_within (i ∷ L) e = let p = both (are_small i.parameters) (are_small_instances L) e in (all_within i.parameters p.0, instances_within L p.1)
+instances_within (i ∷ L) e = let p = and_parts (are_small i.parameters) (are_small_instances L) e in (all_within i.parameters p.0, instances_within L p.1)
 
 -- An instance that the list has
 make_instance : List GlobalId → List Tree → Instance
@@ -131,7 +127,7 @@ make_instance types parameters = record { types = types; parameters = parameters
 same_instance-is : (i j : Instance) → same_instance i j ≡ true → i ≡ j
 unfolding make_instance
 same_instance-is i j e =
-    let p = both (pointwise same_id i.types j.types) (same_trees i.parameters j.parameters) e in
+    let p = and_parts (pointwise same_id i.types j.types) (same_trees i.parameters j.parameters) e in
     ap₂ make_instance (ids-is i.types j.types p.0) (trees-is i.parameters j.parameters p.1)
 
 listed : (i : Instance) (L : List Instance) → list_any (same_instance i) L ≡ true → Contains L i
@@ -225,9 +221,9 @@ module _ (E : Environment) (ids : List GlobalId) where
     instance_positive L us id t None n e other stands h = false_is_not_true h
     instance_positive L us id t (Some J) n e other stands h =
         let i = instance_of J.block (take J.block.parameters us) in
-        let p = both (is_shaped J.block && is_arity_length (length us) (element J.block.types J.index) && not (occurs_in_any ids (drop J.block.parameters us))) _ h in
-        let q = both (is_shaped J.block && is_arity_length (length us) (element J.block.types J.index)) _ p.0 in
-        let r = both (is_shaped J.block) _ q.0 in
+        let p = and_parts (is_shaped J.block && is_arity_length (length us) (element J.block.types J.index) && not (occurs_in_any ids (drop J.block.parameters us))) _ h in
+        let q = and_parts (is_shaped J.block && is_arity_length (length us) (element J.block.types J.index)) _ p.0 in
+        let r = and_parts (is_shaped J.block) _ q.0 in
         let K = other_block id us t J e other stands r.0 r.1 (not-true _ q.1) in
         elim (either (list_any (same_instance i) L) (new (i ∷ L) (take J.block.parameters us) J.block.types) p.1) [
           | inl k ↦ known_instance K.0 (subst (Contains L) (sym K.1) (listed i L k))
@@ -240,7 +236,7 @@ module _ (E : Environment) (ids : List GlobalId) where
 
     nested_here : (L : List Instance) (head : Tree) (us : List Tree) (t : Tree) → length L + left ≡ 64 → t ≡ apply head us → is_nested E ids new L head us ≡ true → Positive E ids L t
     nested_here L (ind id) us t n e h =
-        let p = both (not (is_among id ids)) (is_instance E ids new L us (whole_block E id)) h in
+        let p = and_parts (not (is_among id ids)) (is_instance E ids new L us (whole_block E id)) h in
         instance_positive L us id t (whole_block E id) n e (not-true (is_among id ids) p.0) refl p.1
     nested_here L head us t n e h = false_is_not_true h
 
@@ -248,8 +244,8 @@ module _ (E : Environment) (ids : List GlobalId) where
     step_positive L (prod a b) n e = elim (either (not (occurs ids (prod a b))) _ e) [
       | inl h ↦ N.absent (is_absent ids (prod a b) (not-true (occurs ids (prod a b)) h))
       | inr h ↦
-          let p = both (not (occurs ids a) && are_small_instances (lift_instances L)) _ h in
-          let q = both (not (occurs ids a)) _ p.0 in
+          let p = and_parts (not (occurs ids a) && are_small_instances (lift_instances L)) _ h in
+          let q = and_parts (not (occurs ids a)) _ p.0 in
           let m = length_lifted L in
           N.in_codomain (is_absent ids a (not-true (occurs ids a) q.0)) (instances_within (lift_instances L) q.1)
           (step_positive (lift_instances L) b (omega (arith, n, m)) p.1)
@@ -261,7 +257,7 @@ module _ (E : Environment) (ids : List GlobalId) where
           | inl h ↦ elim (either (not (occurs ids t)) (is_applied_among ids t) h) [
             | inl k ↦ N.absent (is_absent ids t (not-true (occurs ids t) k))
             | inr k ↦
-                let p = both (is_type_among ids (head_of t)) (not (occurs_in_any ids (arguments_of t))) k in
+                let p = and_parts (is_type_among ids (head_of t)) (not (occurs_in_any ids (arguments_of t))) k in
                 let q = type_among ids (head_of t) p.0 in
                 N.applied q.0 (arguments_of t) (sym (apply_head t) ∙ ap (λ f. apply f (arguments_of t)) q.1) q.2
                 (each_absent ids (arguments_of t) (not-true (occurs_in_any ids (arguments_of t)) p.1))
@@ -273,15 +269,15 @@ module _ (E : Environment) (ids : List GlobalId) where
   module _ (positive : List Instance → Tree → Bool) (left : ℕ) (is_right : (L : List Instance) (t : Tree) → length L + left ≡ 64 → positive L t ≡ true → Positive E ids L t) where
     conclusion_right : (L : List Instance) (r : ℕ) (head : Tree) (us : List Tree) (t : Tree) → t ≡ apply head us → is_conclusion E ids r head us ≡ true → PositiveArguments E ids L r t
     conclusion_right L r (ind id) us t e h =
-        let p = both (are_small (drop r us)) (not (occurs_in_any ids (drop r us))) h in
+        let p = and_parts (are_small (drop r us)) (not (occurs_in_any ids (drop r us))) h in
         conclusion id us e (all_within (drop r us) p.0) (each_absent ids (drop r us) (not-true (occurs_in_any ids (drop r us)) p.1))
     conclusion_right L r head us t e h = false_is_not_true h
 
     arguments_right : (L : List Instance) (r : ℕ) (t : Tree) → length L + left ≡ 64 → are_positive_arguments E ids positive L r t ≡ true → PositiveArguments E ids L r t
     arguments_right L r (prod a b) n e =
-        let p = both (is_small a && positive L a && are_small_instances (lift_instances L)) _ e in
-        let q = both (is_small a && positive L a) _ p.0 in
-        let s = both (is_small a) _ q.0 in
+        let p = and_parts (is_small a && positive L a && are_small_instances (lift_instances L)) _ e in
+        let q = and_parts (is_small a && positive L a) _ p.0 in
+        let s = and_parts (is_small a) _ q.0 in
         let m = length_lifted L in
         argument (small_within a s.0) (is_right L a n s.1) (instances_within (lift_instances L) q.1) (arguments_right (lift_instances L) r b (omega (arith, n, m)) p.1)
     arguments_right L r t n e = ended L r t e
@@ -292,13 +288,13 @@ module _ (E : Environment) (ids : List GlobalId) where
     constructors_right : (L : List Instance) (ps : List Tree) (cs : List ConstructorDeclaration) → length L + left ≡ 64 → Each (λ c. Instantiated c.type ps (instantiate ps c.type)) cs → are_positive_constructors E ids positive L ps cs ≡ true → PositiveConstructors E ids L ps cs
     constructors_right L ps [] n i e = no_constructor
     constructors_right L ps (c ∷ cs) n i e =
-        let p = both (are_positive_arguments E ids positive L (length ps) (instantiate ps c.type)) (are_positive_constructors E ids positive L ps cs) e in
+        let p = and_parts (are_positive_arguments E ids positive L (length ps) (instantiate ps c.type)) (are_positive_constructors E ids positive L ps cs) e in
         more_constructors i.0 (arguments_right L (length ps) (instantiate ps c.type) n p.0) (constructors_right L ps cs n i.1 p.1)
 
     types_right : (L : List Instance) (ps : List Tree) (ts : List TypeDeclaration) → length L + left ≡ 64 → Instantiable ps ts → are_positive_types E ids positive L ps ts ≡ true → PositiveTypes E ids L ps ts
     types_right L ps [] n i e = no_type
     types_right L ps (t ∷ ts) n i e =
-        let p = both (are_positive_constructors E ids positive L ps t.constructors) (are_positive_types E ids positive L ps ts) e in
+        let p = and_parts (are_positive_constructors E ids positive L ps t.constructors) (are_positive_types E ids positive L ps ts) e in
         more_types (constructors_right L ps t.constructors n i.0 p.0) (types_right L ps ts n i.1 p.1)
 
   positive_at : (left : ℕ) (L : List Instance) (t : Tree) → length L + left ≡ 64 → is_positive_at E ids left L t ≡ true → Positive E ids L t

@@ -3,7 +3,7 @@
 -- the rules ask for a block of that shape.
 use Rattle.std.proofs.Common.{◌≡◌, inl, inr, ℕ, zero, suc, ◌+◌, ◌-◌, ◌≤◌, Bool, true, false, not, ◌&&◌, nat_eq, nat_le, if◌then◌else◌, Option, Some, None, List, [], ◌∷◌, ◌++◌, length, take, drop, refl, sym, ap, ap₂, ◌∙◌, arith}
 use Rattle.std.specs.Prelude.{is_none, option_map, option_and_then, replicate}
-use Rattle.std.proofs.lemmas.Bool.{eqb-true, leb-true}
+use Rattle.std.proofs.lemmas.Bool.{eqb-true, leb-true, and_parts}
 use Rattle.std.proofs.Math.Seq.{take-append_seam, drop-append_seam}
 use Rattle.std.proofs.lemmas.List.{append-nil, length-map, take-append-drop, length-drop, length-take-le, length-replicate}
 use Rattle.cic_terms.specs.Tree.{TreeSort, prop, set, typ, own, Tree, sort, prod, ind}
@@ -19,7 +19,7 @@ use Rattle.cic_counted.specs.Readings.{arguments_of}
 use Rattle.cic_counted.specs.Outcome.{Cause, bad_arity, bad_constructor}
 use Rattle.cic_counted.specs.BlockTests.{is_plain_sort_term, same_trees, parameter_domains, index_count, is_arity, is_constructor_type, ShapeFault, bad_arity_at, bad_constructor_at, arity_fault, constructor_fault, constructors_fault, shape_fault}
 use Rattle.cic_counted.specs.Checking.{constructor_id, shape_cause}
-use Rattle.cic_counted.proofs.Decided.{both, same_tree-is, false_is_not_true}
+use Rattle.cic_counted.proofs.Decided.{same_tree-is, false_is_not_true}
 use Rattle.cic_counted.proofs.Functions.{arguments_of_apply}
 use Rattle.cic_soundness.proofs.evaluations.Readings.{apply_head}
 use Rattle.cic_metatheory.proofs.environments.Order.{or_else_cases, or_else_none}
@@ -36,7 +36,7 @@ trees_are [] [] e = refl
 trees_are [] (y ∷ ys) e = false_is_not_true e
 trees_are (x ∷ xs) [] e = false_is_not_true e
 trees_are (x ∷ xs) (y ∷ ys) e =
-    let p = both (same_tree x y) (same_trees xs ys) e in
+    let p = and_parts (same_tree x y) (same_trees xs ys) e in
     ap₂ ◌∷◌ (same_tree-is x y p.0) (trees_are xs ys p.1)
 
 -- A term as its products, and a row of products as two
@@ -75,8 +75,8 @@ pub record ArityRead (r : ℕ) (domains : List Tree) (arity : Tree) : Type 0 whe
 
 pub arity_read : (r : ℕ) (domains : List Tree) (arity : Tree) → is_arity r domains arity ≡ true → ArityRead r domains arity
 arity_read r domains arity h =
-    let p = both (nat_le r (length (domains_of arity)) && same_trees (take r (domains_of arity)) domains) (is_plain_sort_term (conclusion_of arity)) h in
-    let q = both (nat_le r (length (domains_of arity))) (same_trees (take r (domains_of arity)) domains) p.0 in
+    let p = and_parts (nat_le r (length (domains_of arity)) && same_trees (take r (domains_of arity)) domains) (is_plain_sort_term (conclusion_of arity)) h in
+    let q = and_parts (nat_le r (length (domains_of arity))) (same_trees (take r (domains_of arity)) domains) p.0 in
     let taken = trees_are (take r (domains_of arity)) domains q.1 in
     let ends = plain_sort_is (conclusion_of arity) p.1 in
     record {
@@ -105,10 +105,10 @@ constructor_shape r domains id n type l h =
     let headed = same_tree (head_of end) (ind id) in
     let counted = nat_eq (length us) (r + n) in
     let applied = same_trees (take r us) (lift_all (length ds - r) (variables r)) in
-    let p = both (enough && begins && headed && counted) applied h in
-    let q = both (enough && begins && headed) counted p.0 in
-    let o = both (enough && begins) headed q.0 in
-    let m = both enough begins o.0 in
+    let p = and_parts (enough && begins && headed && counted) applied h in
+    let q = and_parts (enough && begins && headed) counted p.0 in
+    let o = and_parts (enough && begins) headed q.0 in
+    let m = and_parts enough begins o.0 in
     let is_applied : take r us ≡ lift_all (length (drop r ds)) (variables (length domains)) =
     trees_are (take r us) (lift_all (length ds - r) (variables r)) p.1 ∙ ap₂ (λ i j. lift_all i (variables j)) (sym (length-drop r ds)) (sym l) in
     let is_end : end ≡ apply (ind id) (lift_all (length (drop r ds)) (variables (length domains)) ++ drop r us) =

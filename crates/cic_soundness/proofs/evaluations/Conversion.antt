@@ -3,7 +3,7 @@
 -- and their bodies as abstractions; both stay when they are evaluated, so that the comparison went into their domains
 -- and into what stands after them. The laws of conversion and of inference rest on it.
 use Rattle.std.proofs.Common.{Some, ◌≡◌, ◌≢◌, ℕ, zero, suc, ◌+◌, ◌<◌, ◌⊎◌, inl, inr, true, List, [], ◌∷◌, ◌++◌, length, refl, sym, ap, ◌∙◌, arith, subst}
-use Rattle.std.proofs.lemmas.Bool.{eqb-true}
+use Rattle.std.proofs.lemmas.Bool.{eqb-true, and_parts, and_from}
 use Rattle.std.proofs.lemmas.List.{length-map}
 use Rattle.cic_terms.specs.Tree.{Shape, Former, ProdF, LetF, CaseF, FixF, none, one, many, over, Tree, rel, node, Children, no_child, child, prod, lam, join}
 use Rattle.cic_counted.specs.Sameness.{same_binders}
@@ -15,7 +15,7 @@ use Rattle.cic_rules.specs.Conversion as C
 use Rattle.cic_counted.specs.Outcome.{Budget, done}
 use Rattle.cic_counted.specs.Evaluation.{same_places, value_first, body_of, conv_at, cumul_at}
 use Rattle.cic_counted.specs.calls.Done.{Cost, ◌then◌, called, NeedsNoEvaluation, Evaluates, Reduces, evaluates, needs_no_evaluation, variable_stays, variable_steps, constant_stays, constant_steps, let_steps, function_applied, application_stays, recursion_stays, recursion_steps, match_stays, match_steps, InOrder, Converts, converts_same, converts_heads, Compares, same_variables, equal_sorts, in_order, matches, fixpoints, expands_left, expands_right, ConvertsParts, converts_no_part, converts_part, ConvertsEach, converts_more, ConvertsBodies, converts_body, Cumulates, cumulates_same, cumulates_heads, Below, products_below, sorts_below, compared}
-use Rattle.cic_counted.proofs.Decided.{both, both_true, same_tree-is, same_former-is, same_binders-is}
+use Rattle.cic_counted.proofs.Decided.{same_tree-is, same_former-is, same_binders-is}
 use Rattle.cic_counted.proofs.TakenConversion.{conv_done, cumul_done}
 use Rattle.cic_names.proofs.ByteStrings.{heads, tails}
 use Rattle.cic_metatheory.specs.StepsTo.{StepsTo, arrived, after_step, ClosedBodies}
@@ -116,7 +116,7 @@ Pairs E N G _ _ = ⊥
 pairs_are_parts : {E : Environment} {N : Numbering} (G : Context) (ks ls : Children) → Pairs E N G ks ls → same_places ks ls ≡ true → ConvertibleParts E N G ks ls
 pairs_are_parts G no_child no_child h q = no_parts
 pairs_are_parts {E} {N} G (child b t ks) (child c u ls) h q =
-    let p = both (same_binders b c) (same_places ks ls) q in
+    let p = and_parts (same_binders b c) (same_places ks ls) q in
     subst (λ z. ConvertibleParts E N G (child b t ks) (child z u ls)) (same_binders-is b c p.0) (both_parts h.0 (pairs_are_parts G ks ls h.1 p.1))
 pairs_are_parts G no_child (child c u ls) h q = absurd h
 pairs_are_parts G (child b t ks) no_child h q = absurd h
@@ -247,7 +247,7 @@ module _ (E : Environment) (N : Numbering) (n : ℕ)
   compared_convertible (fixpoints {G = G} {i = i} {j = j} {shapes = shapes} {shapes' = shapes'} {ks = ks} {ls = ls} {c = c} {d = d} fs gs p q x y h k kq) w =
       let r = read_off shapes ks fs x in
       let r' = read_off shapes' ls gs y in
-      let former : FixF i shapes ≡ FixF j shapes' = same_former-is (FixF i shapes) (FixF j shapes') (both_true _ _ p q) in
+      let former : FixF i shapes ≡ FixF j shapes' = same_former-is (FixF i shapes) (FixF j shapes') (and_from _ _ p q) in
       let same : shapes ≡ shapes' = (let e = former in cc) in
       let shapes_are : function_shapes fs ≡ function_shapes gs = sym r.shapes_are ∙ same ∙ r'.shapes_are in
       let costs = within_then c d kq w in

@@ -3,7 +3,7 @@
 -- at plain variables, where each smaller term has the one shape that the derivation gives it.
 use Rattle.std.proofs.Common.{◌≡◌, ◌≢◌, ◌⊎◌, inl, inr, ℕ, zero, suc, ◌+◌, Bool, true, false, nat_eq, if◌then◌else◌, Option, Some, None, List, [], ◌∷◌, ◌++◌, length, drop, refl, sym, ap, ◌∙◌, arith, subst, eq-eqb}
 use Rattle.std.specs.Prelude.{option_map, replicate}
-use Rattle.std.proofs.lemmas.Bool.{eqb-true}
+use Rattle.std.proofs.lemmas.Bool.{eqb-true, and_from}
 use Rattle.cic_terms.specs.Tree.{Shape, Former, AppF, CaseF, FixF, Binders, none, more, over, Tree, rel, node, Children, no_child, child, app, ind, fix}
 use Rattle.cic_names.specs.declared.name.GlobalId.{GlobalId}
 use Rattle.cic_rules.specs.Environment.{Environment, TypeInBlock, Block, TypeDeclaration, ConstructorDeclaration, bare_ids, whole_block, element, or_else}
@@ -14,7 +14,7 @@ use Rattle.cic_rules.specs.Inductive.{Each}
 use Rattle.cic_counted.specs.Readings.{trees_of}
 use Rattle.cic_counted.specs.Outcome.{next_number}
 use Rattle.cic_counted.specs.GuardTest.{same_guard_shape, same_guard_shapes, has_guard_shape, marks_or_plain, shape_of_mark, known_of_mark, shape_if, known_value, smaller_shape, have_shape, Walk, passed, failed, then_walk, argument_shape, call_shape, occurrence_at, occurrence, body_flags, fix_marks, walk, walk_children, walk_branches, walk_chosen, failed_call, walk_fault, head_of_domain, function_fault, functions_fault, guard_fault}
-use Rattle.cic_counted.proofs.Decided.{both_true, ids-refl}
+use Rattle.cic_counted.proofs.Decided.{ids-refl}
 use Rattle.cic_soundness.specs.calls.FixParts.{HasAllParts, PartsHaveAllParts}
 use Rattle.cic_metatheory.proofs.basics.Options.{some_inj, some_is_not_none}
 use Rattle.cic_metatheory.proofs.basics.Applications.{head_of_apply}
@@ -23,12 +23,12 @@ use Rattle.cic_metatheory.proofs.basics.Applications.{head_of_apply}
 mutual
   same_shape-refl : (s : GuardShape) → same_guard_shape s s ≡ true
   same_shape-refl own_block = refl
-  same_shape-refl (nest types ss) = both_true _ _ (ids-refl types) (same_shapes-refl ss)
+  same_shape-refl (nest types ss) = and_from _ _ (ids-refl types) (same_shapes-refl ss)
 
   same_shapes-refl : (ss : GuardShapes) → same_guard_shapes ss ss ≡ true
   same_shapes-refl no_more = refl
   same_shapes-refl (unshaped ss) = same_shapes-refl ss
-  same_shapes-refl (shaped s ss) = both_true _ _ (same_shape-refl s) (same_shapes-refl ss)
+  same_shapes-refl (shaped s ss) = and_from _ _ (same_shape-refl s) (same_shapes-refl ss)
 
 -- Better at plain variables
 pub data Better : Mark → Mark → Type 0 where
@@ -182,9 +182,9 @@ module _ (recursive : (known : Option GuardShape) → GlobalId → (place : ℕ)
         (f' : Marks) → MarksBetter f f' → have_shape recursive places f' known' id place s ks ≡ true
     branches_have_shape no_smaller_branch known' same f' h = refl
     branches_have_shape (smaller_branch {s = s} {known = known} {id = id} {place = place} {b = b} {t = t} ms e n c cs) known' same f' h =
-        both_true _ _ (has_it s _ (branch_has_shape known known' same id place (over b 0) ms e n t s f' (smaller_has_shape c (under_marks ms f') (under_same ms _ f' h)))) (branches_have_shape cs known' same f' h)
+        and_from _ _ (has_it s _ (branch_has_shape known known' same id place (over b 0) ms e n t s f' (smaller_has_shape c (under_marks ms f') (under_same ms _ f' h)))) (branches_have_shape cs known' same f' h)
     branches_have_shape (smaller_plain_branch {s = s} {id = id} {place = place} {b = b} {t = t} c cs) known' same f' h =
-        both_true _ _ (has_it s _ (smaller_has_shape c (under_marks (marks_or_plain (over b 0) (recursive known' id place)) f') (under_or_plain (over b 0) (recursive known' id place) (only_smaller known' id place) _ f' h))) (branches_have_shape cs known' same f' h)
+        and_from _ _ (has_it s _ (smaller_has_shape c (under_marks (marks_or_plain (over b 0) (recursive known' id place)) f') (under_or_plain (over b 0) (recursive known' id place) (only_smaller known' id place) _ f' h))) (branches_have_shape cs known' same f' h)
 
   -- Walks that pass
   Passes : Walk recursive places → Type 0

@@ -2,7 +2,7 @@
 -- derivation, where the instances of the list and those that the test may still add are 64 together.
 use Rattle.std.proofs.Common.{◌≡◌, ℕ, zero, suc, ◌+◌, Bool, true, false, not, ◌||◌, Option, Some, List, [], ◌∷◌, ◌++◌, length, take, drop, refl, sym, ap, ap₂, ◌∙◌, arith, Contains, eq-eqb, inl, inr}
 use Rattle.std.specs.List.{list_any}
-use Rattle.std.proofs.lemmas.Bool.{le-leb}
+use Rattle.std.proofs.lemmas.Bool.{le-leb, or_left, and_from, or_right}
 use Rattle.std.proofs.lemmas.List.{length-append}
 use Rattle.std.proofs.Math.Seq.{take-append_seam, drop-append_seam}
 use Rattle.cic_terms.specs.Tree.{Former, ConstF, IndF, CtorF, CaseF, Tree, rel, node, Children, no_child, child, prod, ind}
@@ -17,9 +17,9 @@ use Rattle.cic_counted.specs.Readings.{arguments_of}
 use Rattle.cic_counted.specs.Outcome.{is_small}
 use Rattle.cic_counted.specs.BlockTests.{is_type_among, former_has, occurs, occurs_in_children, occurs_in_any, is_applied_among}
 use Rattle.cic_counted.specs.NestedTest.{same_instance, are_small, are_small_instances, is_arity_length, is_instance, is_nested, is_positive_step, is_conclusion, are_positive_arguments, are_positive_constructors, are_positive_types, is_positive_at, is_nested_positive}
-use Rattle.cic_counted.proofs.Decided.{both_true, ids-refl}
+use Rattle.cic_counted.proofs.Decided.{ids-refl}
 use Rattle.cic_counted.proofs.Functions.{arguments_of_apply}
-use Rattle.cic_soundness.proofs.blocks.Nested.{second_holds, among, found_among, length_lifted}
+use Rattle.cic_soundness.proofs.blocks.Nested.{among, found_among, length_lifted}
 use Rattle.cic_soundness.proofs.matches.Instantiate.{instantiate_gives}
 use Rattle.cic_soundness.proofs.exactness.Shape.{same_trees_of, is_shaped_passes}
 use Rattle.cic_metatheory.proofs.basics.Elements.{contains_none, contains_cases}
@@ -27,9 +27,6 @@ use Rattle.cic_metatheory.proofs.basics.Products.{no_domains_of_apply}
 use Rattle.cic_metatheory.proofs.basics.Applications.{head_of_apply}
 
 -- Tests of two parts
-pub first_holds : (a b : Bool) → a ≡ true → (a || b) ≡ true
-first_holds true b e = refl
-first_holds false b e = absurd (grind arith)
 
 neither : (a b : Bool) → a ≡ false → b ≡ false → (a || b) ≡ false
 neither a b e f = ap₂ ◌||◌ e f
@@ -76,30 +73,30 @@ type_among_passes ids head id e c = ap (is_type_among ids) e ∙ found_among ids
 
 pub applied_passes : (ids : List GlobalId) (t : Tree) (id : GlobalId) (us : List Tree) → t ≡ apply (ind id) us → Contains ids id → Each (Absent ids) us → is_applied_among ids t ≡ true
 applied_passes ids t id us e c h =
-    both_true _ _ (type_among_passes ids (head_of t) id (ap head_of e ∙ head_of_apply us (ind id)) c)
+    and_from _ _ (type_among_passes ids (head_of t) id (ap head_of e ∙ head_of_apply us (ind id)) c)
     (ap (λ z. not (occurs_in_any ids z)) (ap arguments_of e ∙ arguments_of_apply us (ind id)) ∙ none_occurs ids us h)
 
 -- Terms within the limits
 within_passes : (t : Tree) → WithinLimits t → is_small t ≡ true
-within_passes t h = both_true _ _ (le-leb (depth_tree t) 4000 h.depth) (le-leb (max_rel t) 1048576 h.rels)
+within_passes t h = and_from _ _ (le-leb (depth_tree t) 4000 h.depth) (le-leb (max_rel t) 1048576 h.rels)
 
 all_within_pass : (ts : List Tree) → Each WithinLimits ts → are_small ts ≡ true
 all_within_pass [] h = refl
-all_within_pass (t ∷ ts) h = both_true _ _ (within_passes t h.0) (all_within_pass ts h.1)
+all_within_pass (t ∷ ts) h = and_from _ _ (within_passes t h.0) (all_within_pass ts h.1)
 
 instances_pass : (L : List Instance) → InstancesWithinLimits L → are_small_instances L ≡ true
 instances_pass [] h = refl
-instances_pass (i ∷ L) h = both_true _ _ (all_within_pass i.parameters h.0) (instances_pass L h.1)
+instances_pass (i ∷ L) h = and_from _ _ (all_within_pass i.parameters h.0) (instances_pass L h.1)
 
 -- Instances of the list
 same_instance_refl : (i : Instance) → same_instance i i ≡ true
-same_instance_refl i = both_true _ _ (ids-refl i.types) (same_trees_of i.parameters i.parameters refl)
+same_instance_refl i = and_from _ _ (ids-refl i.types) (same_trees_of i.parameters i.parameters refl)
 
 listed_passes : (i : Instance) (L : List Instance) → Contains L i → list_any (same_instance i) L ≡ true
 listed_passes i [] h = absurd (contains_none i h)
 listed_passes i (j ∷ L) h = elim (contains_cases j i L h) [
-  | inl e ↦ first_holds (same_instance i j) (list_any (same_instance i) L) (ap (same_instance i) e ∙ same_instance_refl i)
-  | inr k ↦ second_holds (same_instance i j) (list_any (same_instance i) L) (listed_passes i L k)
+  | inl e ↦ or_left (same_instance i j) (list_any (same_instance i) L) (ap (same_instance i) e ∙ same_instance_refl i)
+  | inr k ↦ or_right (same_instance i j) (list_any (same_instance i) L) (listed_passes i L k)
 ]
 
 arity_length_passes : (n : ℕ) (o : Option TypeDeclaration) (T : TypeDeclaration) → o ≡ Some T → n ≡ length (domains_of T.arity) → is_arity_length n o ≡ true
@@ -113,16 +110,16 @@ module _ (E : Environment) (ids : List GlobalId) where
     step_at_other L t e = refl
 
     step_absent : (L : List Instance) (t : Tree) → Absent ids t → is_positive_step E ids new L t ≡ true
-    step_absent L (prod a b) h = first_holds (not (occurs ids (prod a b))) _ (absent_passes ids (prod a b) h)
+    step_absent L (prod a b) h = or_left (not (occurs ids (prod a b))) _ (absent_passes ids (prod a b) h)
     step_absent L t h = other L t h
       where
         other : (L : List Instance) (t : Tree) → Absent ids t → (not (occurs ids t) || is_applied_among ids t || is_nested E ids new L (head_of t) (arguments_of t)) ≡ true
-        other L t h = first_holds (not (occurs ids t) || is_applied_among ids t) _ (first_holds (not (occurs ids t)) _ (absent_passes ids t h))
+        other L t h = or_left (not (occurs ids t) || is_applied_among ids t) _ (or_left (not (occurs ids t)) _ (absent_passes ids t h))
 
     step_applied : (L : List Instance) (t : Tree) (id : GlobalId) (us : List Tree) → t ≡ apply (ind id) us → Contains ids id → Each (Absent ids) us → is_positive_step E ids new L t ≡ true
     step_applied L t id us e c h =
         step_at_other L t (ap domains_of e ∙ no_domains_of_apply us (ind id) refl)
-        ∙ first_holds (not (occurs ids t) || is_applied_among ids t) _ (second_holds (not (occurs ids t)) (is_applied_among ids t) (applied_passes ids t id us e c h))
+        ∙ or_left (not (occurs ids t) || is_applied_among ids t) _ (or_right (not (occurs ids t)) (is_applied_among ids t) (applied_passes ids t id us e c h))
 
     -- A type of another block, at an instance of the list or at one that is new
     step_nested : (L : List Instance) (t : Tree) (J : OfOtherBlock E ids t) →
@@ -133,20 +130,20 @@ module _ (E : Environment) (ids : List GlobalId) where
         let taken : take block.parameters us ≡ J.parameters = ap (λ n. take n us) (sym J.as_many_parameters) ∙ take-append_seam J.parameters J.indices in
         let dropped : drop block.parameters us ≡ J.indices = ap (λ n. drop n us) (sym J.as_many_parameters) ∙ drop-append_seam J.parameters J.indices in
         let instance : is_instance E ids new L us (Some J.place) ≡ true =
-        both_true _ _
-        (both_true _ _
-        (both_true _ _ (is_shaped_passes block J.shaped) (arity_length_passes (length us) (element block.types J.place.index) J.type J.is_type (length-append J.parameters J.indices ∙ J.as_many)))
+        and_from _ _
+        (and_from _ _
+        (and_from _ _ (is_shaped_passes block J.shaped) (arity_length_passes (length us) (element block.types J.place.index) J.type J.is_type (length-append J.parameters J.indices ∙ J.as_many)))
         (ap (λ z. not (occurs_in_any ids z)) dropped ∙ none_occurs ids J.indices J.indices_absent))
         (ap (λ z. list_any (same_instance (instance_of block z)) L || new (instance_of block z ∷ L) z block.types) taken ∙ h) in
         let nested : is_nested E ids new L (ind J.id) us ≡ true =
-        both_true _ _ (ap not (not_among ids J.id J.is_other)) (ap (is_instance E ids new L us) J.stands ∙ instance) in
+        and_from _ _ (ap not (not_among ids J.id J.is_other)) (ap (is_instance E ids new L us) J.stands ∙ instance) in
         step_at_other L t (ap domains_of J.is_applied ∙ no_domains_of_apply us (ind J.id) refl)
-        ∙ second_holds (not (occurs ids t) || is_applied_among ids t) _
+        ∙ or_right (not (occurs ids t) || is_applied_among ids t) _
         (ap₂ (is_nested E ids new L) (ap head_of J.is_applied ∙ head_of_apply us (ind J.id)) (ap arguments_of J.is_applied ∙ arguments_of_apply us (ind J.id)) ∙ nested)
 
     step_in_codomain : (L : List Instance) (a b : Tree) → Absent ids a → InstancesWithinLimits (lift_instances L) → is_positive_step E ids new (lift_instances L) b ≡ true → is_positive_step E ids new L (prod a b) ≡ true
     step_in_codomain L a b h l e =
-        second_holds (not (occurs ids (prod a b))) _ (both_true _ _ (both_true _ _ (absent_passes ids a h) (instances_pass (lift_instances L) l)) e)
+        or_right (not (occurs ids (prod a b))) _ (and_from _ _ (and_from _ _ (absent_passes ids a h) (instances_pass (lift_instances L) l)) e)
 
   conclusion_at_other : (positive : List Instance → Tree → Bool) (L : List Instance) (r : ℕ) (t : Tree) → domains_of t ≡ [] → are_positive_arguments E ids positive L r t ≡ is_conclusion E ids r (head_of t) (arguments_of t)
   conclusion_at_other positive L r (prod a b) e = absurd (grind arith)
@@ -157,7 +154,7 @@ module _ (E : Environment) (ids : List GlobalId) where
   conclusion_passes positive L r t id us e w h =
       conclusion_at_other positive L r t (ap domains_of e ∙ no_domains_of_apply us (ind id) refl)
       ∙ ap₂ (is_conclusion E ids r) (ap head_of e ∙ head_of_apply us (ind id)) (ap arguments_of e ∙ arguments_of_apply us (ind id))
-      ∙ both_true _ _ (all_within_pass (drop r us) w) (none_occurs ids (drop r us) h)
+      ∙ and_from _ _ (all_within_pass (drop r us) w) (none_occurs ids (drop r us) h)
 
   -- The whole test, with so many instances left to be added
   mutual
@@ -171,28 +168,28 @@ module _ (E : Environment) (ids : List GlobalId) where
     positive_passes {L} (in_codomain {a = a} {b = b} h l p) (suc left) n =
         let m = length_lifted L in step_in_codomain (are_positive_types E ids (is_positive_at E ids left)) L a b h l (positive_passes p (suc left) (omega (arith, n, m)))
     positive_passes {L} {t} (known_instance J c) zero n =
-        step_nested (λ L ps ts. false) L t J (first_holds _ _ (listed_passes (instance_of J.place.block J.parameters) L c))
+        step_nested (λ L ps ts. false) L t J (or_left _ _ (listed_passes (instance_of J.place.block J.parameters) L c))
     positive_passes {L} {t} (known_instance J c) (suc left) n =
-        step_nested (are_positive_types E ids (is_positive_at E ids left)) L t J (first_holds _ _ (listed_passes (instance_of J.place.block J.parameters) L c))
+        step_nested (are_positive_types E ids (is_positive_at E ids left)) L t J (or_left _ _ (listed_passes (instance_of J.place.block J.parameters) L c))
     positive_passes {L} {t} (new_instance J l p) zero n = absurd (omega (arith, l, n))
     positive_passes {L} {t} (new_instance J l p) (suc left) n =
         step_nested (are_positive_types E ids (is_positive_at E ids left)) L t J
-        (second_holds (list_any (same_instance (instance_of J.place.block J.parameters)) L) _ (types_pass p left (omega (arith, n))))
+        (or_right (list_any (same_instance (instance_of J.place.block J.parameters)) L) _ (types_pass p left (omega (arith, n))))
 
     types_pass : {L : List Instance} {ps : List Tree} {ts : List TypeDeclaration} → PositiveTypes E ids L ps ts → (left : ℕ) → length L + left ≡ 64 → are_positive_types E ids (is_positive_at E ids left) L ps ts ≡ true
     types_pass no_type left n = refl
-    types_pass (more_types c cs) left n = both_true _ _ (constructors_pass c left n) (types_pass cs left n)
+    types_pass (more_types c cs) left n = and_from _ _ (constructors_pass c left n) (types_pass cs left n)
 
     constructors_pass : {L : List Instance} {ps : List Tree} {cs : List ConstructorDeclaration} → PositiveConstructors E ids L ps cs → (left : ℕ) → length L + left ≡ 64 → are_positive_constructors E ids (is_positive_at E ids left) L ps cs ≡ true
     constructors_pass no_constructor left n = refl
     constructors_pass (more_constructors {L = L} {parameters = ps} e c cs) left n =
-        both_true _ _ (ap (are_positive_arguments E ids (is_positive_at E ids left) L (length ps)) (instantiate_gives e) ∙ arguments_pass c left n) (constructors_pass cs left n)
+        and_from _ _ (ap (are_positive_arguments E ids (is_positive_at E ids left) L (length ps)) (instantiate_gives e) ∙ arguments_pass c left n) (constructors_pass cs left n)
 
     arguments_pass : {L : List Instance} {r : ℕ} {t : Tree} → PositiveArguments E ids L r t → (left : ℕ) → length L + left ≡ 64 → are_positive_arguments E ids (is_positive_at E ids left) L r t ≡ true
     arguments_pass {L} {r} {t} (conclusion id us e w h) left n = conclusion_passes (is_positive_at E ids left) L r t id us e w h
     arguments_pass {L} (argument {a = a} w p l c) left n =
         let m = length_lifted L in
-        both_true _ _ (both_true _ _ (both_true _ _ (within_passes a w) (positive_passes p left n)) (instances_pass (lift_instances L) l)) (arguments_pass c left (omega (arith, n, m)))
+        and_from _ _ (and_from _ _ (and_from _ _ (within_passes a w) (positive_passes p left n)) (instances_pass (lift_instances L) l)) (arguments_pass c left (omega (arith, n, m)))
 
   pub nested_positive_passes : (t : Tree) → Positive E ids [] t → is_nested_positive E ids t ≡ true
   nested_positive_passes t p = positive_passes p 64 refl

@@ -3,6 +3,7 @@
 use Rattle.std.proofs.Common.{◌≡◌, ◌↔◌, ℕ, ◌+◌, Bool, true, false, not, ◌&&◌, ◌||◌, if◌then◌else◌, Some, None, List, [], ◌∷◌, drop, refl, sym, ap, ap₂, ◌∙◌, arith}
 use Rattle.std.specs.Prelude.{option_map}
 use Rattle.std.proofs.Math.Seq.{drop-append_seam}
+use Rattle.std.proofs.lemmas.Bool.{and_from, or_right, or_left}
 use Rattle.cic_terms.specs.Tree.{Tree, prod, ind}
 use Rattle.cic_names.specs.declared.name.GlobalId.{GlobalId}
 use Rattle.cic_rules.specs.Environment.{Environment, Block, TypeDeclaration, ConstructorDeclaration, bare_ids, or_else}
@@ -14,11 +15,10 @@ use Rattle.cic_counted.specs.Outcome.{next_number}
 use Rattle.cic_counted.specs.BlockTests.{occurs, occurs_in_any, is_applied_among, is_strictly_positive, argument_fault, conclusion_fault, constructor_positivity_fault, type_positivity_fault, positivity_fault}
 use Rattle.cic_counted.specs.NestedTest.{is_nested_positive, nested_fault}
 use Rattle.cic_counted.specs.PlainPositivity.{StrictlyPositive, absent, applied, in_codomain, PositiveBlock}
-use Rattle.cic_counted.proofs.Decided.{both_true}
 use Rattle.cic_counted.proofs.Functions.{arguments_of_apply}
-use Rattle.cic_soundness.proofs.blocks.Nested.{second_holds, strictly_positive, nested_positive}
+use Rattle.cic_soundness.proofs.blocks.Nested.{strictly_positive, nested_positive}
 use Rattle.cic_soundness.proofs.blocks.Shapes.{constructor_read}
-use Rattle.cic_soundness.proofs.exactness.Nested.{first_holds, absent_passes, applied_passes, do_not_occur, nested_positive_passes}
+use Rattle.cic_soundness.proofs.exactness.Nested.{absent_passes, applied_passes, do_not_occur, nested_positive_passes}
 use Rattle.cic_soundness.proofs.exactness.Shape.{goes_on}
 use Rattle.cic_metatheory.proofs.basics.Products.{no_domains_of_apply}
 
@@ -28,19 +28,19 @@ other_term ids (prod a b) e = absurd (grind arith)
 other_term ids t e = refl
 
 absent_is_positive : (ids : List GlobalId) (t : Tree) → not (occurs ids t) ≡ true → is_strictly_positive ids t ≡ true
-absent_is_positive ids (prod a b) e = first_holds (not (occurs ids (prod a b))) (not (occurs ids a) && is_strictly_positive ids b) e
+absent_is_positive ids (prod a b) e = or_left (not (occurs ids (prod a b))) (not (occurs ids a) && is_strictly_positive ids b) e
 absent_is_positive ids t e = other ids t e
   where
     other : (ids : List GlobalId) (t : Tree) → not (occurs ids t) ≡ true → (not (occurs ids t) || is_applied_among ids t) ≡ true
-    other ids t e = first_holds (not (occurs ids t)) (is_applied_among ids t) e
+    other ids t e = or_left (not (occurs ids t)) (is_applied_among ids t) e
 
 pub strictly_positive_passes : (ids : List GlobalId) {t : Tree} → StrictlyPositive ids t → is_strictly_positive ids t ≡ true
 strictly_positive_passes ids {t} (absent a) = absent_is_positive ids t (absent_passes ids t a)
 strictly_positive_passes ids {t} (applied id us e c h) =
     other_term ids t (ap domains_of e ∙ no_domains_of_apply us (ind id) refl)
-    ∙ second_holds (not (occurs ids t)) (is_applied_among ids t) (applied_passes ids t id us e c h)
+    ∙ or_right (not (occurs ids t)) (is_applied_among ids t) (applied_passes ids t id us e c h)
 strictly_positive_passes ids (in_codomain {a = a} {b = b} h p) =
-    second_holds (not (occurs ids (prod a b))) (not (occurs ids a) && is_strictly_positive ids b) (both_true _ _ (absent_passes ids a h) (strictly_positive_passes ids p))
+    or_right (not (occurs ids (prod a b))) (not (occurs ids a) && is_strictly_positive ids b) (and_from _ _ (absent_passes ids a h) (strictly_positive_passes ids p))
 
 -- Both tests of one term
 pub strictly_positive_decided : (ids : List GlobalId) (t : Tree) → (is_strictly_positive ids t ≡ true) ↔ StrictlyPositive ids t

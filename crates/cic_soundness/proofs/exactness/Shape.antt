@@ -3,7 +3,7 @@
 use Rattle.std.specs.Cmp.Lexicographic.{pointwise_decides}
 use Rattle.std.proofs.Common.{◌≡◌, ℕ, ◌+◌, ◌-◌, Bool, true, false, if◌then◌else◌, Option, Some, None, List, [], ◌∷◌, ◌++◌, length, take, refl, sym, ap, ap₂, ◌∙◌, arith, eq-eqb}
 use Rattle.std.specs.Prelude.{is_none, not}
-use Rattle.std.proofs.lemmas.Bool.{le-leb}
+use Rattle.std.proofs.lemmas.Bool.{le-leb, and_from}
 use Rattle.std.proofs.lemmas.List.{append-nil, length-append}
 use Rattle.std.proofs.Math.Seq.{take-append_seam}
 use Rattle.cic_terms.specs.Tree.{TreeSort, Tree, sort, ind}
@@ -13,7 +13,7 @@ use Rattle.cic_rules.specs.Telescopes.{apply, head_of, domains_of, conclusion_of
 use Rattle.cic_rules.specs.Inductive.{Each, PlainSort, plain_prop, plain_set, plain_universe, ArityShape, ConstructorShape, TypeShape, ShapedBlock}
 use Rattle.cic_counted.specs.Readings.{arguments_of}
 use Rattle.cic_counted.specs.BlockTests.{is_plain_sort, is_plain_sort_term, same_trees, parameter_domains, index_count, is_arity, is_constructor_type, bad_arity_at, bad_constructor_at, arity_fault, constructor_fault, constructors_fault, shape_fault, is_shaped}
-use Rattle.cic_counted.proofs.Decided.{both_true, same_tree_decides}
+use Rattle.cic_counted.proofs.Decided.{same_tree_decides}
 use Rattle.cic_counted.proofs.Functions.{arguments_of_apply}
 use Rattle.cic_soundness.proofs.blocks.Shapes.{constructor_read, applied_to, length_applied_to}
 use Rattle.cic_metatheory.proofs.basics.ConstructorTypes.{shape_is_type}
@@ -52,8 +52,8 @@ arity_passes r domains arity l h =
     let p = ap length (domains_of_arity domains arity h) ∙ length-append domains h.indices in
     let ends : conclusion_of arity ≡ sort h.sort_of =
     ap conclusion_of h.is_arity ∙ conclusion_of_products domains (products h.indices (sort h.sort_of)) ∙ conclusion_of_products h.indices (sort h.sort_of) in
-    both_true _ _
-    (both_true _ _ (le-leb r (length (domains_of arity)) (omega (arith, p, l))) (same_trees_of (take r (domains_of arity)) domains (taken_domains r domains arity l h)))
+    and_from _ _
+    (and_from _ _ (le-leb r (length (domains_of arity)) (omega (arith, p, l))) (same_trees_of (take r (domains_of arity)) domains (taken_domains r domains arity l h)))
     (ap is_plain_sort_term ends ∙ plain_passes h.is_plain)
 
 -- Types of constructors
@@ -74,10 +74,10 @@ constructor_passes r domains id n type l h =
     let past : length (domains_of type) - r ≡ length h.parts.arguments = omega (arith, p, l) in
     let first : take r (arguments_of (conclusion_of type)) ≡ lift_all (length (domains_of type) - r) (variables r) =
     ap₂ take (sym l ∙ sym o) applied ∙ take-append_seam (applied_to domains h.parts.arguments) h.indices ∙ ap₂ (λ x y. lift_all x (variables y)) (sym past) l in
-    both_true _ _
-    (both_true _ _
-    (both_true _ _
-    (both_true _ _ (le-leb r (length (domains_of type)) (omega (arith, p, l))) (same_trees_of (take r (domains_of type)) domains k.taken))
+    and_from _ _
+    (and_from _ _
+    (and_from _ _
+    (and_from _ _ (le-leb r (length (domains_of type)) (omega (arith, p, l))) (same_trees_of (take r (domains_of type)) domains k.taken))
     ((same_tree_decides (head_of (conclusion_of type)) (ind id)).1 (ap head_of k.concluded ∙ head_of_apply us (ind id))))
     (eq-eqb (length (arguments_of (conclusion_of type))) (r + n) counted))
     (same_trees_of (take r (arguments_of (conclusion_of type))) (lift_all (length (domains_of type) - r) (variables r)) first)

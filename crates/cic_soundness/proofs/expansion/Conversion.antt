@@ -2,12 +2,12 @@
 -- constraints: they came to no abstraction beside another term, since these differ.
 use Rattle.std.proofs.Common.{◌≡◌, ℕ, zero, suc, Bool, true, false, if◌then◌else◌, refl, sym, subst, ◌∷◌}
 use Rattle.std.specs.Prelude.{is_none}
+use Rattle.std.proofs.lemmas.Bool.{and_parts}
 use Rattle.cic_terms.specs.Tree.{Former, SortF, LamF, Tree, rel, node, Children, no_child, child, sort, prod}
 use Rattle.cic_counted.specs.Sameness.{same_former, same_tree}
 use Rattle.cic_rules.specs.Environment.{Environment, Context, unknown}
 use Rattle.cic_counted.specs.Outcome.{Budget, Counted, done, Cause, deep, refuse}
 use Rattle.cic_counted.specs.Evaluation.{whnf_at, same_places, compare, body_of, compare_heads, conv_at, below_or_equal, cumul_at}
-use Rattle.cic_counted.proofs.Decided.{both}
 use Rattle.cic_counted.proofs.RunsConversion.{alike, by_alike_bodies}
 use Rattle.cic_soundness.specs.WithoutEta
 use Rattle.cic_soundness.proofs.counting.Compositional.{holds_then, holds_if}
@@ -22,7 +22,7 @@ passed false m c u b b' e = cc
 module _ (conv : Context → Tree → Tree → Counted (Unit {0})) (G : Context) where
   nodes_alike : (f g : Former) (ks ls : Children) (u : Unit {0}) (b b' : Budget) → compare conv G (node f ks) (node g ls) b ≡ done u b' → is_none (body_of (node f ks)) ≡ is_none (body_of (node g ls))
   nodes_alike LamF g ks ls u b b' e =
-      let p = both (same_former LamF g) (same_places ks ls) (passed _ _ _ u b b' e) in alike LamF g ks ls p.0 p.1
+      let p = and_parts (same_former LamF g) (same_places ks ls) (passed _ _ _ u b b' e) in alike LamF g ks ls p.0 p.1
   nodes_alike (SortF s) LamF no_child ls u b b' e = cc
   nodes_alike (SortF s) LamF (child x t ks) ls u b b' e = cc
   nodes_alike f LamF ks ls u b b' e = cc

@@ -3,7 +3,7 @@
 -- constructor, or on an argument without a shape, is not guarded. It shows that the rules take what they should, and
 -- refuse what they should.
 use Rattle.std.proofs.Common.{◌≡◌, ℕ, zero, suc, Bool, true, ◌&&◌, nat_eq, Option, Some, None, List, [], ◌∷◌, length, refl, sym, ap, ◌∙◌, arith, subst, codes}
-use Rattle.std.proofs.lemmas.Bool.{eqb-true}
+use Rattle.std.proofs.lemmas.Bool.{eqb-true, and_parts}
 use Rattle.cic_terms.specs.Tree.{Binders, none, many, more, over, Tree, rel, node, Children, no_child, child, app, ctor, case, fix}
 use Rattle.cic_names.specs.declared.name.GlobalId.{GlobalId}
 use Rattle.cic_rules.specs.Environment.{Environment, inductive, Block, element}
@@ -20,7 +20,6 @@ use Rattle.cic_counted.specs.BlockTests.{shape_fault, PositivityFault}
 use Rattle.cic_counted.specs.GuardTest.{Unguarded, guard_fault}
 use Rattle.cic_counted.specs.NestedTest.{nested_fault}
 use Rattle.cic_soundness.proofs.exactness.Guard.{guarded_passes}
-use Rattle.cic_counted.proofs.Decided.{both}
 use Rattle.cic_counted.proofs.Functions.{arguments_of_apply}
 use Rattle.cic_soundness.specs.calls.FixParts.{part_count, HasAllParts, PartsHaveAllParts}
 use Rattle.cic_soundness.proofs.fixpoints.Sound.{guard_is_right}
@@ -42,13 +41,13 @@ mutual
   parts_there : (t : Tree) → has_parts t ≡ true → HasAllParts t
   parts_there (rel x) e = tt
   parts_there (fix which shapes ks) e =
-      let p = both (nat_eq (part_count shapes) (length (trees_of ks))) (parts_have ks) e in
+      let p = and_parts (nat_eq (part_count shapes) (length (trees_of ks))) (parts_have ks) e in
       (eqb-true (part_count shapes) (length (trees_of ks)) p.0, all_parts_there ks p.1)
   parts_there (node f ks) e = (tt, all_parts_there ks e)
 
   all_parts_there : (ks : Children) → parts_have ks ≡ true → PartsHaveAllParts ks
   all_parts_there no_child e = tt
-  all_parts_there (child b t ks) e = let p = both (has_parts t) (parts_have ks) e in (parts_there t p.0, all_parts_there ks p.1)
+  all_parts_there (child b t ks) e = let p = and_parts (has_parts t) (parts_have ks) e in (parts_there t p.0, all_parts_there ks p.1)
 
 pub tree_is_positive : NestedPositiveBlock (environment (inductive list_block ∷ [])) tree_block
 tree_is_positive = nested_positive_block (environment (inductive list_block ∷ [])) tree_block (shaped_block tree_block refl) refl

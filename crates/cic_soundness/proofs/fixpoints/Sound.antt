@@ -4,7 +4,7 @@
 -- inference for the test.
 use Rattle.std.proofs.Common.{◌≡◌, ℕ, zero, suc, ◌+◌, Bool, true, false, ◌||◌, nat_eq, if◌then◌else◌, Option, Some, None, List, [], ◌∷◌, ◌++◌, length, refl, sym, ap, ap₂, ◌∙◌, arith, subst}
 use Rattle.std.specs.Prelude.{option_map, replicate}
-use Rattle.std.proofs.lemmas.Bool.{eqb-true}
+use Rattle.std.proofs.lemmas.Bool.{eqb-true, and_parts}
 use Rattle.std.proofs.lemmas.List.{length-append, length-replicate}
 use Rattle.cic_terms.specs.Tree.{Shape, Binders, over, Tree, rel, node, Children, no_child, child, lam, app, ind, case, fix}
 use Rattle.cic_names.specs.declared.name.GlobalId.{GlobalId}
@@ -18,7 +18,7 @@ use Rattle.cic_rules.specs.Guard.{Mark, plain, main, smaller, function, Marks, u
 use Rattle.cic_counted.specs.Readings.{arguments_of, trees_of}
 use Rattle.cic_counted.specs.Outcome.{next_number}
 use Rattle.cic_counted.specs.GuardTest.{same_guard_shape, same_guard_shapes, has_guard_shape, marks_or_plain, shape_of_mark, known_of_mark, shape_if, known_value, smaller_shape, have_shape, Walk, passed, failed, then_walk, argument_shape, call_shape, occurrence_at, occurrence, body_flags, fix_marks, walk, walk_children, walk_branches, walk_chosen, failed_call, walk_fault, head_of_domain, function_fault, functions_fault, guard_fault}
-use Rattle.cic_counted.proofs.Decided.{both, ids-is}
+use Rattle.cic_counted.proofs.Decided.{ids-is}
 use Rattle.cic_soundness.specs.calls.FixParts.{part_count, HasAllParts, PartsHaveAllParts}
 use Rattle.cic_soundness.proofs.evaluations.Readings.{apply_head}
 use Rattle.cic_metatheory.proofs.environments.Order.{or_else_none}
@@ -39,7 +39,7 @@ mutual
   same_shape-is : (s s' : GuardShape) → same_guard_shape s s' ≡ true → s ≡ s'
   same_shape-is own_block own_block e = refl
   same_shape-is (nest types ss) (nest types' ss') e =
-      let p = both (pointwise same_id types types') (same_guard_shapes ss ss') e in
+      let p = and_parts (pointwise same_id types types') (same_guard_shapes ss ss') e in
       ap₂ nest (ids-is types types' p.0) (same_shapes-is ss ss' p.1)
   same_shape-is own_block (nest types ss) e = absurd (grind arith)
   same_shape-is (nest types ss) own_block e = absurd (grind arith)
@@ -48,7 +48,7 @@ mutual
   same_shapes-is no_more no_more e = refl
   same_shapes-is (unshaped ss) (unshaped ss') e = ap (λ z. unshaped z) (same_shapes-is ss ss' e)
   same_shapes-is (shaped s ss) (shaped s' ss') e =
-      let p = both (same_guard_shape s s') (same_guard_shapes ss ss') e in
+      let p = and_parts (same_guard_shape s s') (same_guard_shapes ss ss') e in
       ap₂ (λ x y. shaped x y) (same_shape-is s s' p.0) (same_shapes-is ss ss' p.1)
   same_shapes-is _ _ e = absurd (grind arith)
 
@@ -137,7 +137,7 @@ module _ (recursive : (known : Option GuardShape) → GlobalId → (place : ℕ)
     have_shape_right no_child marks known id place s e = no_smaller_branch
     have_shape_right (child b t ks) marks known id place s e =
         let ms = marks_or_plain (over b 0) (recursive known id place) in
-        let p = both (has_guard_shape s (smaller_shape recursive places (under_marks ms marks) t)) (have_shape recursive places marks known id (place + 1) s ks) e in
+        let p = and_parts (has_guard_shape s (smaller_shape recursive places (under_marks ms marks) t)) (have_shape recursive places marks known id (place + 1) s ks) e in
         smaller_one_branch (marks_of_branch known id place (over b 0) (recursive known id place) refl)
         (smaller_shape_right t (under_marks ms marks) s (has_shape-is s (smaller_shape recursive places (under_marks ms marks) t) p.0))
         (have_shape_right ks marks known id (place + 1) s p.1)

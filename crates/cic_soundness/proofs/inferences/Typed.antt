@@ -2,7 +2,7 @@
 -- what they are done with. A type that was evaluated is inferred again before it is used, and each type that
 -- inference answers has a sort; so no rule needs that evaluation keeps types.
 use Rattle.std.proofs.Common.{◌≡◌, ℕ, ◌-◌, true, nat_eq, Some, List, [], ◌∷◌, length, refl, sym, ap, ◌∙◌, subst}
-use Rattle.std.proofs.lemmas.Bool.{eqb-true}
+use Rattle.std.proofs.lemmas.Bool.{eqb-true, and_parts}
 use Rattle.std.proofs.lemmas.List.{length-map}
 use Rattle.cic_terms.specs.Tree.{TreeSort, over, Tree, Children, sort, case}
 use Rattle.cic_terms.specs.Lift.{lift_tree}
@@ -17,7 +17,7 @@ use Rattle.cic_rules.specs.Typing.{of_prop, of_set, Typed, Branches, no_branch, 
 use Rattle.cic_counted.specs.Inference.{are_branches}
 use Rattle.cic_counted.specs.calls.Done.{Cost, ◌then◌}
 use Rattle.cic_counted.specs.calls.DoneTyping.{Infers, infers, Checks, checks, SortOf, sorts_of, Exposes, exposes_itself, exposes_another, HasInferred, infers_variable, infers_prop, infers_set, infers_universe, infers_product, infers_abstraction, infers_let, infers_application, infers_constant, infers_type, infers_constructor, infers_match, infers_fix, Eliminates, eliminates_freely, eliminates_nothing, eliminates_propositions, AllPropositions, no_more, proposition, ChecksBranches, no_branch_left, checks_branch, SortsEach, sorts_none, sorts_one_more, ChecksBodies, no_body_left, checks_body}
-use Rattle.cic_counted.proofs.Decided.{both, same_tree-is}
+use Rattle.cic_counted.proofs.Decided.{same_tree-is}
 use Rattle.cic_metatheory.specs.WellTypedLookups.{WellTypedLookups, ConstructorShown}
 use Rattle.cic_soundness.proofs.evaluations.Readings.{read_off}
 use Rattle.cic_soundness.proofs.evaluations.Steps.{evaluates_steps_to}
@@ -181,6 +181,6 @@ module _ (E : Environment) (N : Numbering) (right : WellTypedLookups E N) where
     branches_typed no_branch_left id r laws q m = no_branch
     branches_typed (checks_branch {G = G} {parameters = parameters} {constructor = k} {rest = rest} {b = b} {ks = ks} {c = c} {d = d} small small' h br kq) id r laws q m =
         let n = both_met c d kq m in
-        let q' = both (nat_eq (over b 0) (length (domains_of k.type) - r)) (are_branches r rest ks) q in
+        let q' = and_parts (nat_eq (over b 0) (length (domains_of k.type) - r)) (are_branches r rest ks) q in
         laws.0.rule b _ rest ks (eqb-true (over b 0) (length (domains_of k.type) - r) q'.0)
         (checks_typed h laws.0.context n.0 laws.0.goal) (branches_typed br id r laws.1 q'.1 n.1)
