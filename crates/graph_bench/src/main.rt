@@ -11,8 +11,8 @@ use univ_graph::{Graph, GraphFault, Tag};
 /// A level that the number names.
 fn level(owner: &Name, number: u32) -> Result<Level, NoMemory> {
     Ok(Level::Named(LevelName {
-        lib: owner.copy()?,
-        owner: owner.copy()?,
+        lib: owner.clone()?,
+        owner: owner.clone()?,
         part: Part::Visible(number),
     }))
 }
@@ -22,10 +22,19 @@ fn next_random(seed: u32) -> u32 {
     seed.wrapping_mul(1_664_525).wrapping_add(1_013_904_223)
 }
 
+/// Two random numbers below the size.
+fn random_pair(size: u32, seed: u32) -> (u32, u32) {
+    let first = next_random(next_random(seed));
+    let second = next_random(first);
+    (
+        first.wrapping_shr(8) % size.max(1),
+        second.wrapping_shr(8) % size.max(1),
+    )
+}
+
 /// The ends of a constraint of a random acyclic set: the less of two random numbers first.
 fn random_ends(size: u32, i: u32) -> (u32, u32) {
-    let first = next_random(next_random(i)).wrapping_shr(8) % size.max(1);
-    let second = next_random(next_random(next_random(i))).wrapping_shr(8) % size.max(1);
+    let (first, second) = random_pair(size, i);
     if first < second {
         (first, second)
     } else {
@@ -56,18 +65,23 @@ struct Asked {
 }
 
 /// A constraint of a chain of levels that becomes equal. Each level of it is above one of a strict chain. The constraints
-/// go up the chain, then strictly from each level to one more, and then back down the chain.
-fn of_equal_chain(size: u32, i: u32) -> Asked {
-    let link = i % size.max(1);
+/// of the first four parts go along the strict chain, up to the chain, along it, and strictly from each level to one more,
+/// those of the fifth part back along the chain, and those of further parts from any of its levels to any other.
+fn of_equal_chain(size: u32, part: u32, link: u32) -> Asked {
     let next = link.saturating_add(1);
     let below = size.saturating_add(next);
     let above = size.saturating_add(1).saturating_add(below);
-    let (left, strict, right) = match i / size.max(1) {
+    let (left, strict, right) = match part {
         0 => (below, true, below.saturating_add(1)),
         1 => (below, false, link),
         2 => (link, false, next),
         3 => (link, true, above),
-        _ => (next, false, link),
+        4 => (next, false, link),
+        _ => {
+            let seed = link.wrapping_add(part.wrapping_mul(1_000_003));
+            let (first, second) = random_pair(size, seed);
+            (first, false, second)
+        }
     };
     Asked {
         left,
@@ -76,13 +90,27 @@ fn of_equal_chain(size: u32, i: u32) -> Asked {
     }
 }
 
+/// Which parts of those constraints there are, in order. None for another shape.
+fn parts_of(shape: &str) -> &'static [u32] {
+    match shape {
+        "equal" | "knotted" => &[0, 1, 2, 4],
+        "merged" => &[0, 1, 2, 3, 4],
+        "tied" => &[2, 0, 1, 4],
+        "woven" => &[0, 1, 5, 6, 7],
+        _ => &[],
+    }
+}
+
 /// The constraint with this number.
 fn constraint_at(shape: &str, size: u32, i: u32) -> Asked {
-    match shape {
-        "merged" => return of_equal_chain(size, i),
-        "equal" if i / size.max(1) == 3 => return of_equal_chain(size, i.saturating_add(size)),
-        "equal" => return of_equal_chain(size, i),
-        _ => {}
+    let link = i % size.max(1);
+    if let Some(part) = parts_of(shape).get((i / size.max(1)) as usize) {
+        let link = if shape == "knotted" {
+            link.wrapping_mul(7919) % size.max(1)
+        } else {
+            link
+        };
+        return of_equal_chain(size, *part, link);
     }
     let (left, right) = ends(shape, size, i);
     Asked {
@@ -94,10 +122,10 @@ fn constraint_at(shape: &str, size: u32, i: u32) -> Asked {
 
 /// How many constraints there are.
 fn count_of(shape: &str, size: u32) -> u32 {
-    match shape {
-        "equal" => size.saturating_mul(4),
-        "merged" => size.saturating_mul(5),
-        _ => size,
+    match parts_of(shape).len() {
+        0 => size,
+        4 => size.saturating_mul(4),
+        _ => size.saturating_mul(5),
     }
 }
 
@@ -128,7 +156,7 @@ fn enforce(
     plainly: bool,
 ) -> Result<usize, NoMemory> {
     let constraint = made(owner, asked)?;
-    let tag = Tag::Visible(owner.copy()?);
+    let tag = Tag::Visible(owner.clone()?);
     let answer = if plainly {
         graph.enforce_plainly(&constraint, tag)
     } else {
@@ -181,7 +209,7 @@ fn main(rt: HostRuntime) -> anyhow::Result<()> {
     let mut words = env::args(&rt)?;
     let (Some(_), Some(size), Some(shape)) = (words.next(), words.next(), words.next()) else {
         bail!(
-            "graph_bench SIZE SHAPE, where SHAPE is forwards, backwards, shuffled, star, random, cycle, equal or merged"
+            "graph_bench SIZE SHAPE, where SHAPE is forwards, backwards, shuffled, star, random, cycle, equal, merged, knotted, tied or woven"
         );
     };
     let size: u32 = size.as_str().parse()?;

@@ -1,11 +1,13 @@
-//! Runs the graph and its slow body over the same random lists of constraints, and fills a graph with as many levels as
-//! may be. It prints counts.
+//! Runs the graph and its slow body over the same random lists of constraints, fills a graph with as many levels as may
+//! be, and prints what the graph answers for short lists.
 #![tactic(auto)]
 
 use anyhow::bail;
 use cic_names::{Constraint, Level, LevelName, Name, NoMemory, Part};
 use std::alloc::Global;
 use univ_graph::{Graph, GraphFault, Tag};
+
+mod rows;
 
 /// How many levels a random list has, Set among them.
 const FEW_LEVELS: u32 = 12;
@@ -19,8 +21,8 @@ fn level(owner: &Name, number: u32) -> Result<Level, NoMemory> {
         return Ok(Level::Set);
     }
     Ok(Level::Named(LevelName {
-        lib: owner.copy()?,
-        owner: owner.copy()?,
+        lib: owner.clone()?,
+        owner: owner.clone()?,
         part: Part::Visible(number),
     }))
 }
@@ -51,7 +53,7 @@ struct Counts {
 
 /// Whether a graph takes the constraint and meets it then.
 fn takes(graph: &mut Graph, asked: &Constraint, owner: &Name) -> Result<bool, NoMemory> {
-    match graph.enforce(asked, Tag::Visible(owner.copy()?)) {
+    match graph.enforce(asked, Tag::Visible(owner.clone()?)) {
         Ok(()) => Ok(graph.holds(asked)),
         Err(GraphFault::Conflict(_) | GraphFault::Limit(_)) => Ok(false),
         Err(GraphFault::NoMemory) => Err(NoMemory),
@@ -60,7 +62,7 @@ fn takes(graph: &mut Graph, asked: &Constraint, owner: &Name) -> Result<bool, No
 
 /// The same by the slow body.
 fn takes_plainly(graph: &mut Graph, asked: &Constraint, owner: &Name) -> Result<bool, NoMemory> {
-    match graph.enforce_plainly(asked, Tag::Visible(owner.copy()?)) {
+    match graph.enforce_plainly(asked, Tag::Visible(owner.clone()?)) {
         Ok(()) => Ok(graph.holds(asked)),
         Err(GraphFault::Conflict(_) | GraphFault::Limit(_)) => Ok(false),
         Err(GraphFault::NoMemory) => Err(NoMemory),
@@ -135,5 +137,5 @@ fn main(rt: HostRuntime) -> anyhow::Result<()> {
         bail!("no memory");
     };
     println!(rt; "limit passed at {levels} levels")?;
-    Ok(())
+    rows::run(&rt)
 }

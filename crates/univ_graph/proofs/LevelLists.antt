@@ -1,5 +1,5 @@
 -- The names of the levels of constraints, each once, and the numbers that are kept for them.
--- So the kept numbers are a numbering, give each level the number at its place, and meet the constraints whose rows are met.
+-- So the kept numbers are a numbering, give each level the number at its place, and meet the constraints whose edges are met.
 use Rattle.std.proofs.Common.{◌≡◌, ◌∙◌, ◌⊎◌, inl, inr, ◌<◌, ◌≤◌, ◌+◌, ℕ, zero, suc, List, [], ◌∷◌, ◌++◌, length, drop, true, false, refl, ap, sym, subst, arith}
 use Rattle.std.specs.Prelude.{Option, Some, None, slice_get, MatchOption}
 use Rattle.std.specs.Option.{option_map}
@@ -9,15 +9,15 @@ use Rattle.cic_names.specs.declared.level.Level.TheVariants.{Set, Named}
 use Rattle.cic_names.specs.declared.constraint.Constraint.{Constraint}
 use Rattle.cic_names.specs.Sameness.{same_level_name}
 use Rattle.cic_rules.specs.Numbering.{Numbered, Numbering, level_number, NotNumbered, IsNumbering, MeetsAt, Meets, MeetsAll}
-use Rattle.univ_graph.specs.declared.board.Row.{Row}
-use Rattle.univ_parts.specs.declared.numbers.LevelNumber.{LevelNumber}
-use Rattle.univ_parts.specs.Numbers.{constraints, numbering}
-use Rattle.univ_parts.specs.Places.{level_at, paired, rest, IsAbsent, IsAbsentLevel, count_one}
+use Rattle.univ_graph.specs.declared.board.Edge.{Edge}
+use Rattle.univ_cycles.specs.declared.numbers.LevelNumber.{LevelNumber}
+use Rattle.univ_cycles.specs.Numbers.{constraints, numbering}
+use Rattle.univ_cycles.specs.calls.Places.{level_at, paired, rest, IsAbsent, IsAbsentLevel, count_one}
 use Rattle.univ_graph.specs.Kept.{with_name, with_level, with_ends, levels_from, levels_of}
-use Rattle.univ_graph.specs.Boards.{at, tagged, AreNumbers, IsTied, IsMet}
+use Rattle.univ_graph.specs.calls.Boards.{at, tagged, AreNumbers, IsTied, IsMet}
 use Rattle.cic_names.proofs.Equality.{same_level_name_decides}
-use Rattle.univ_parts.proofs.LevelNumbers.{true_or_false, number_here, number_later}
-use Rattle.univ_parts.proofs.AtPlaces.{same_some, get_last, get_old}
+use Rattle.univ_cycles.proofs.LevelNumbers.{true_or_false, number_here, number_later}
+use Rattle.univ_nodes.proofs.AtPlaces.{same_some, get_last, get_old}
 
 pub with_known : (names : List LevelName) (l : LevelName) (p : ℕ) → slice_get names p ≡ Some l → with_name names l ≡ names
 with_known [] l p h = absurd (cc)
@@ -120,16 +120,16 @@ pub kept_absent : (names : List LevelName) (ns : List ℕ) (l : Level) → IsAbs
 kept_absent names ns Set h = absurd h
 kept_absent names ns (Named l) h = number_absent names ns l h
 
-row_meets : (names : List LevelName) (ns : List ℕ) (r : Row) → AreDistinct names → AreNumbers names ns → IsTied names r → IsMet ns r → Meets (paired names (rest ns)) r.tagged.constraint
-row_meets names ns r d h tied met =
+edge_meets : (names : List LevelName) (ns : List ℕ) (r : Edge) → AreDistinct names → AreNumbers names ns → IsTied names r → IsMet ns r → Meets (paired names (rest ns)) r.tagged.constraint
+edge_meets names ns r d h tied met =
     subst (λ x. MeetsAt r.tagged.constraint.strict x (level_number (paired names (rest ns)) r.tagged.constraint.right)) (sym (kept_number names ns r.left r.tagged.constraint.left d h tied.0))
     (subst (λ y. MeetsAt r.tagged.constraint.strict (at ns r.left) y) (sym (kept_number names ns r.right r.tagged.constraint.right d h tied.1)) met)
 
-pub rows_meet : (names : List LevelName) (ns : List ℕ) (rows : List Row) → AreDistinct names → AreNumbers names ns → ((k : ℕ) (r : Row) → slice_get rows k ≡ Some r → IsTied names r) →
-    ((k : ℕ) (r : Row) → slice_get rows k ≡ Some r → IsMet ns r) → MeetsAll (paired names (rest ns)) (constraints (tagged rows))
-rows_meet names ns [] d h tied met = tt
-rows_meet names ns (r ∷ rows) d h tied met =
-    (row_meets names ns r d h (tied 0 r refl) (met 0 r refl), rows_meet names ns rows d h (λ k. tied (suc k)) (λ k. met (suc k)))
+pub edges_meet : (names : List LevelName) (ns : List ℕ) (edges : List Edge) → AreDistinct names → AreNumbers names ns → ((k : ℕ) (r : Edge) → slice_get edges k ≡ Some r → IsTied names r) →
+    ((k : ℕ) (r : Edge) → slice_get edges k ≡ Some r → IsMet ns r) → MeetsAll (paired names (rest ns)) (constraints (tagged edges))
+edges_meet names ns [] d h tied met = tt
+edges_meet names ns (r ∷ edges) d h tied met =
+    (edge_meets names ns r d h (tied 0 r refl) (met 0 r refl), edges_meet names ns edges d h (λ k. tied (suc k)) (λ k. met (suc k)))
 
 levels_paired : (names : List LevelName) (ns : List ℕ) → length names ≤ length ns → levels_of (paired names ns) ≡ names
 levels_paired [] ns le = refl

@@ -10,4 +10,5 @@ pub mod Shifting
 pub mod SearchLaws
 pub mod MovingLaws
 pub mod MergeLaws
-pub mod ListedRows
+pub mod JoinLaws
+pub mod ListedEdges

@@ -1,32 +1,31 @@
 -- Levels that become equal: one number of a gap for what leads back to the left end of a constraint within what is reached from its
--- right end, and numbers behind it for the others that are reached; or the number of the left end for all that is reached. The new
--- numbers meet all constraints. The functions that find such places and write such numbers rest on this.
+-- right end, and numbers behind it for the others that are reached. The new numbers meet all constraints. The functions that find such
+-- places and write such numbers rest on this.
 use Rattle.std.proofs.Common.{◌≡◌, ◌∙◌, ◌⊎◌, inl, inr, ◌<◌, ◌≤◌, ◌+◌, ℕ, suc, List, [], ◌++◌, length, Bool, true, false, refl, ap, sym, subst, arith}
 use Rattle.std.specs.Prelude.{Option, Some, None, slice_get, Contains, Result, Ok, Err, IfOk, IfSome}
 use Rattle.std.proofs.lemmas.Option.{slice_get_within}
 use Rattle.cic_rules.specs.Numbering.{MeetsAt}
-use Rattle.univ_graph.specs.declared.board.Row.{Row}
+use Rattle.univ_graph.specs.declared.board.Edge.{Edge}
 use Rattle.univ_graph.specs.declared.board.Board.{Board}
-use Rattle.univ_parts.specs.declared.bands.Band.{Band}
-use Rattle.univ_parts.specs.declared.bands.Gap.{Gap}
+use Rattle.univ_nodes.specs.declared.bands.Gap.{Gap}
 use Rattle.univ_graph.specs.declared.search.Found.{Found}
 use Rattle.univ_graph.specs.declared.search.Found.TheVariants.{Gathered}
 use Rattle.univ_graph.specs.declared.merge.Merge.{Merge}
-use Rattle.univ_parts.specs.Places.{IsFront}
-use Rattle.univ_parts.specs.Bands.{AreBands, AreMovedInto, IsCovered, IsGap}
-use Rattle.univ_graph.specs.Boards.{at, number_bound, AreNumbers, AreRaised, IsSound, IsMet}
-use Rattle.univ_graph.specs.Moves.{AreRanked, AreWritten, IsClosed, IsFoundFrom}
-use Rattle.univ_graph.specs.Merges.{AreMerged, AreOthers, FitsMerge, IsLift, IsMerge, IsMergedAlong, IsMerging, IsMerged, LeadsBehind, Merges}
-use Rattle.univ_parts.proofs.AtPlaces.{at_within, same_some}
-use Rattle.univ_parts.proofs.RankLaws.{compare_or, less_or_at}
-use Rattle.univ_graph.proofs.Shifting.{Side, side, contains_or, index_of, has_index, meets_across, meets_in_order, meets_same, written_in, written_order}
-use Rattle.univ_parts.proofs.PlaceSets.{place_in}
+use Rattle.univ_nodes.specs.calls.PlaceSets.{IsFront}
+use Rattle.univ_nodes.specs.calls.Bands.{AreMovedInto, IsGap}
+use Rattle.univ_graph.specs.calls.Boards.{at, number_bound, AreNumbers, AreRaised, IsSound, IsMet}
+use Rattle.univ_graph.specs.calls.Moves.{AreRanked, AreWritten, IsClosed, IsFoundFrom}
+use Rattle.univ_graph.specs.calls.Merges.{AreMerged, AreOthers, FitsMerge, IsMerge, IsMergedAlong, IsMerging, IsMerged, Merges}
+use Rattle.univ_nodes.proofs.AtPlaces.{at_within, same_some}
+use Rattle.univ_nodes.proofs.RankLaws.{compare_or, less_or_at}
+use Rattle.univ_graph.proofs.Shifting.{Side, side, index_of, has_index, meets_across, meets_in_order, meets_same, written_in, written_order}
+use Rattle.univ_nodes.proofs.PlaceSets.{place_in}
 use Rattle.univ_graph.proofs.SearchLaws.{front_length, front_get, get_front, contains_front}
 use Rattle.univ_graph.proofs.PlanLaws.{nothing_has, above_between, gap_bounded, gap_part}
 
 -- ---- two numbers of a constraint
 
-meets_raised : (s : Bool) (m n k : ℕ) → MeetsAt s m n → n ≤ k → MeetsAt s m k
+pub meets_raised : (s : Bool) (m n k : ℕ) → MeetsAt s m n → n ≤ k → MeetsAt s m k
 meets_raised true m n k h le = omega arith
 meets_raised false m n k h le = omega arith
 
@@ -45,15 +44,15 @@ reached_above : (b : Board) (left right low high : ℕ) (reached merged others :
 reached_above b left right low high reached merged others h p has =
     let k : (1 ≤ at b.numbers.items p) × (at b.numbers.items p < high) = h.reached_closed.kept p has in k.0
 
--- A row from what is reached leads to what is reached, or to numbers from `high` on.
-leaves_above : (b : Board) (left right low high : ℕ) (reached merged others : List ℕ) → IsMerge b left right low high reached merged others → (k : ℕ) (r : Row) →
-    slice_get b.rows.items k ≡ Some r → IsMet b.numbers.items r → Contains reached r.left → (Contains merged r.right → ⊥) → (Contains others r.right → ⊥) → high ≤ at b.numbers.items r.right
+-- An edge from what is reached leads to what is reached, or to numbers from `high` on.
+leaves_above : (b : Board) (left right low high : ℕ) (reached merged others : List ℕ) → IsMerge b left right low high reached merged others → (k : ℕ) (r : Edge) →
+    slice_get b.edges.items k ≡ Some r → IsMet b.numbers.items r → Contains reached r.left → (Contains merged r.right → ⊥) → (Contains others r.right → ⊥) → high ≤ at b.numbers.items r.right
 leaves_above b left right low high reached merged others h k r is met has not_merged not_other = elim (compare_or high (at b.numbers.items r.right)) [
   | inl beyond ↦ beyond
   | inr less ↦
       let one = reached_above b left right low high reached merged others h r.left has in
       let le = meets_in_order r.tagged.constraint.strict (at b.numbers.items r.left) (at b.numbers.items r.right) met in
-      elim (h.others_are.all r.right ((h.reached_closed.rows k r is has).gathered (omega arith, less))) [
+      elim (h.others_are.all r.right ((h.reached_closed.edges k r is has).gathered (omega arith, less))) [
         | inl m ↦ absurd (not_merged m)
         | inr o ↦ absurd (not_other o)
       ]
@@ -85,7 +84,7 @@ merged_numbers b left right low high reached merged others after ns h a = record
 
 merged_meets : (b : Board) (left right low high : ℕ) (reached merged others after : List ℕ) →
     IsMerge b left right low high reached merged others → AreMerged b.numbers.items after low high merged others →
-    (k : ℕ) (r : Row) → slice_get b.rows.items k ≡ Some r → IsMet b.numbers.items r → IsMet after r
+    (k : ℕ) (r : Edge) → slice_get b.edges.items k ≡ Some r → IsMet b.numbers.items r → IsMet after r
 merged_meets b left right low high reached merged others after h a k r is met = by (side merged others r.left) (side merged others r.right)
   where
     strict : Bool
@@ -99,7 +98,7 @@ merged_meets b left right low high reached merged others after h a k r is met = 
 
     by : Side merged others r.left → Side merged others r.right → MeetsAt strict (at after r.left) (at after r.right)
     by (inl x) (inl y) =
-        let plain = ((h.merged_is.rows k r is y) (h.merged_is.within r.left x)).0 in
+        let plain = ((h.merged_is.edges k r is y) (h.merged_is.within r.left x)).0 in
         let e = a.equal r.left x in
         let f = a.equal r.right y in
         let le : MeetsAt false (at after r.left) (at after r.right) = omega arith in
@@ -114,7 +113,7 @@ merged_meets b left right low high reached merged others after h a k r is met = 
         let beyond = leaves_above b left right low high reached merged others h k r is met (h.merged_is.within r.left x) n.0 n.1 in
         let o = h.order in
         meets_across strict (at after r.left) (at after r.right) high (omega arith) (omega arith)
-    by (inr (inl x)) (inl y) = absurd (h.others_are.apart r.left x ((h.merged_is.rows k r is y) (h.others_are.within r.left x)).1)
+    by (inr (inl x)) (inl y) = absurd (h.others_are.apart r.left x ((h.merged_is.edges k r is y) (h.others_are.within r.left x)).1)
     by (inr (inl x)) (inr (inl y)) = a.order strict r.left r.right x y met
     by (inr (inl x)) (inr (inr n)) =
         let i = (a.behind r.left x).1 in
@@ -131,7 +130,7 @@ merged_meets b left right low high reached merged others after h a k r is met = 
         subst (λ z. MeetsAt strict z (at after r.right)) (sym (a.stay r.left n.0 n.1)) (meets_raised strict from to (at after r.right) met (omega arith))
     by (inr (inr n)) (inr (inr m)) = meets_same strict from to (at after r.left) (at after r.right) (a.stay r.left n.0 n.1) (a.stay r.right m.0 m.1) met
 
--- The merged numbers meet all rows, and the constraint for which they were merged.
+-- The merged numbers meet all edges, and the constraint for which they were merged.
 pub merged_raises : (b : Board) (left right low high : ℕ) (reached merged others after : List ℕ) → IsSound b →
     IsMerge b left right low high reached merged others → AreMerged b.numbers.items after low high merged others → AreRaised b left right false after
 merged_raises b left right low high reached merged others after sound h a = record {
@@ -166,7 +165,7 @@ written_merges before mid after merged others ranks low high apart ranked first 
 
 -- ---- the search for what is merged
 
-along_more : (reached ms ns : List ℕ) (r : Row) → IsFront ms ns → IsMergedAlong reached ms r → IsMergedAlong reached ns r
+along_more : (reached ms ns : List ℕ) (r : Edge) → IsFront ms ns → IsMergedAlong reached ms r → IsMergedAlong reached ns r
 along_more reached ms ns r front h = λ has. let w = h has in (w.0, contains_front ms ns r.left front w.1)
 
 -- One more place that is reached.
@@ -178,10 +177,10 @@ merging_more b reached ms ns done q h front only has_q = record {
     | inl old ↦ h.within p old
     | inr e ↦ subst (Contains reached) (sym e) has_q
   ];
-  rows = λ j p before is k r at_k to.
+  edges = λ j p before is k r at_k to.
       let f = h.followed in
       let old : slice_get ms j ≡ Some p = sym (front_get ms front.0 j (omega arith)) ∙ ap (λ z. slice_get z j) (sym front.1) ∙ is in
-      along_more reached ms ns r front (h.rows j p before old k r at_k to);
+      along_more reached ms ns r front (h.edges j p before old k r at_k to);
 }
 
 -- The first place.
@@ -189,44 +188,44 @@ pub merging_first : (b : Board) (reached ms : List ℕ) (q : ℕ) → ((p : ℕ)
 merging_first b reached ms q only has_q = record {
   followed = omega arith;
   within = λ p has. subst (Contains reached) (sym (only p has)) has_q;
-  rows = λ j p before. absurd (omega arith);
+  edges = λ j p before. absurd (omega arith);
 }
 
--- The rows in a list that have been followed so far, of those to the place that is at hand.
+-- The edges in a list that have been followed so far, of those to the place that is at hand.
 pub record IsFollowingBack (b : Board) (reached merged : List ℕ) (i p : ℕ) (list : List ℕ) (n : ℕ) : Type 0 where
   pub merging : IsMerging b reached merged i
   pub here : slice_get merged i ≡ Some p
-  pub rows : (m k : ℕ) (r : Row) → m < n → slice_get list m ≡ Some k → slice_get b.rows.items k ≡ Some r → r.right ≡ p → IsMergedAlong reached merged r
+  pub edges : (m k : ℕ) (r : Edge) → m < n → slice_get list m ≡ Some k → slice_get b.edges.items k ≡ Some r → r.right ≡ p → IsMergedAlong reached merged r
 
 pub back_more : (b : Board) (reached ms ns : List ℕ) (i p : ℕ) (list : List ℕ) (n k : ℕ) → IsFollowingBack b reached ms i p list n → IsMerging b reached ns i → IsFront ms ns →
-    slice_get list n ≡ Some k → ((r : Row) → slice_get b.rows.items k ≡ Some r → r.right ≡ p → IsMergedAlong reached ns r) → IsFollowingBack b reached ns i p list (n + 1)
+    slice_get list n ≡ Some k → ((r : Edge) → slice_get b.edges.items k ≡ Some r → r.right ≡ p → IsMergedAlong reached ns r) → IsFollowingBack b reached ns i p list (n + 1)
 back_more b reached ms ns i p list n k f merging front is along = record {
   merging = merging;
   here = get_front ms ns i p front f.here;
-  rows = λ m l r less at_m at_l to. elim (less_or_at m n less) [
-    | inl before ↦ along_more reached ms ns r front (f.rows m l r before at_m at_l to)
+  edges = λ m l r less at_m at_l to. elim (less_or_at m n less) [
+    | inl before ↦ along_more reached ms ns r front (f.edges m l r before at_m at_l to)
     | inr e ↦
         let same : k ≡ l = same_some k l (sym is ∙ sym (ap (slice_get list) e) ∙ at_m) in
-        along r (subst (λ z. slice_get b.rows.items z ≡ Some r) (sym same) at_l) to
+        along r (subst (λ z. slice_get b.edges.items z ≡ Some r) (sym same) at_l) to
   ];
 }
 
--- Once all rows in the list have been followed, the place is done.
+-- Once all edges in the list have been followed, the place is done.
 pub back_all : (b : Board) (reached merged : List ℕ) (i p : ℕ) (list : List ℕ) (n : ℕ) → IsFollowingBack b reached merged i p list n → length list ≤ n →
-    ((k : ℕ) (r : Row) → slice_get b.rows.items k ≡ Some r → r.right ≡ p → Contains list k) → IsMerging b reached merged (i + 1)
+    ((k : ℕ) (r : Edge) → slice_get b.edges.items k ≡ Some r → r.right ≡ p → Contains list k) → IsMerging b reached merged (i + 1)
 back_all b reached merged i p list n f all listed =
     let h = f.merging in
     record {
       followed = let w = slice_get_within merged i p f.here in omega arith;
       within = h.within;
-      rows = λ j q before is k r at_k to. elim (less_or_at j i before) [
-        | inl earlier ↦ h.rows j q earlier is k r at_k to
+      edges = λ j q before is k r at_k to. elim (less_or_at j i before) [
+        | inl earlier ↦ h.edges j q earlier is k r at_k to
         | inr e ↦
             let same : q ≡ p = same_some q p (sym is ∙ ap (slice_get merged) e ∙ f.here) in
             let to_p : r.right ≡ p = to ∙ same in
             let place = place_in list k (listed k r at_k to_p) in
             let lt = slice_get_within list place.0 k place.1 in
-            f.rows place.0 k r (omega arith) place.1 at_k to_p
+            f.edges place.0 k r (omega arith) place.1 at_k to_p
       ];
     }
 
@@ -234,10 +233,10 @@ back_all b reached merged i p list n f all listed =
 pub merged_all : (b : Board) (reached merged : List ℕ) (done : ℕ) → IsMerging b reached merged done → length merged ≤ done → IsMerged b reached merged
 merged_all b reached merged done h all = record {
   within = h.within;
-  rows = λ k r at_k has.
+  edges = λ k r at_k has.
       let place = place_in merged r.right has in
       let lt = slice_get_within merged place.0 r.right place.1 in
-      h.rows place.0 r.right (omega arith) place.1 k r at_k refl;
+      h.edges place.0 r.right (omega arith) place.1 k r at_k refl;
 }
 
 -- ---- what is reached and not merged
@@ -376,159 +375,3 @@ pub put_into : (b : Board) (left right : ℕ) (m : Merge) (mid after : List ℕ)
     AreWritten mid after m.others m.ranks.items (m.gap.low + 1) → AreMovedInto m.gap.low m.gap.high b.numbers.items after
 put_into b left right m mid after h first second =
     merged_into b.numbers.items after m.merged m.others m.gap.low m.gap.high (put_merges b left right m mid after h first second) h.merge.1.order
-
--- ---- what gets the number of the left place
-
-meets_behind : (s : Bool) (m n : ℕ) → (s ≡ true → m < n) → m ≤ n → MeetsAt s m n
-meets_behind true m n h le = h refl
-meets_behind false m n h le = le
-
--- Each place is lifted or stays.
-abbrev MayLift : (lifted : List ℕ) (p : ℕ) → Type 0
-MayLift lifted p = Contains lifted p ⊎ (Contains lifted p → ⊥)
-
-lifted_is : (before after lifted : List ℕ) (number p : ℕ) → AreWritten before after lifted [] number → Contains lifted p → at after p ≡ number
-lifted_is before after lifted number p w has =
-    let i = index_of lifted p has in
-    let is : at after p ≡ number + 0 = w.here i.0 p i.1 in omega arith
-
-lifted_below : (b : Board) (left right p : ℕ) (lifted : List ℕ) → IsLift b left right lifted → Contains lifted p → (1 ≤ at b.numbers.items p) × (at b.numbers.items p < at b.numbers.items left)
-lifted_below b left right p lifted h has = h.closed.kept p has
-
-left_stays : (b : Board) (left right : ℕ) (lifted : List ℕ) → IsLift b left right lifted → Contains lifted left → ⊥
-left_stays b left right lifted h has = let k = (lifted_below b left right left lifted h has).1 in omega arith
-
-lifted_numbers : (b : Board) (left right : ℕ) (lifted after : List ℕ) → AreNumbers b.names b.numbers.items → IsLift b left right lifted →
-    AreWritten b.numbers.items after lifted [] (at b.numbers.items left) → AreNumbers b.names after
-lifted_numbers b left right lifted after ns h w = record {
-  lengths = w.lengths ∙ ns.lengths;
-  set = set_by (contains_or lifted 0);
-  positive = λ p lt. positive_by p lt (contains_or lifted (suc p));
-  bounded = λ p. bounded_by p (contains_or lifted p);
-}
-  where
-    set_by : MayLift lifted 0 → at after 0 ≡ 0
-    set_by (inl x) = let one = (lifted_below b left right 0 lifted h x).0 in let z = ns.set in absurd (omega arith)
-    set_by (inr n) = w.other 0 n ∙ ns.set
-
-    positive_by : (p : ℕ) → suc p < length after → MayLift lifted (suc p) → 1 ≤ at after (suc p)
-    positive_by p lt (inl x) =
-        let e = lifted_is b.numbers.items after lifted (at b.numbers.items left) (suc p) w x in
-        let k = (lifted_below b left right (suc p) lifted h x).1 in omega arith
-    positive_by p lt (inr n) = let e = w.other (suc p) n in let l = w.lengths in let o = ns.positive p (omega arith) in omega arith
-
-    bounded_by : (p : ℕ) → MayLift lifted p → at after p ≤ number_bound
-    bounded_by p (inl x) = let e = lifted_is b.numbers.items after lifted (at b.numbers.items left) p w x in let o = ns.bounded left in omega arith
-    bounded_by p (inr n) = let e = w.other p n in let o = ns.bounded p in omega arith
-
-lifted_meets : (b : Board) (left right : ℕ) (lifted after : List ℕ) → IsLift b left right lifted → AreWritten b.numbers.items after lifted [] (at b.numbers.items left) →
-    (k : ℕ) (r : Row) → slice_get b.rows.items k ≡ Some r → IsMet b.numbers.items r → IsMet after r
-lifted_meets b left right lifted after h w k r is met = by (contains_or lifted r.left) (contains_or lifted r.right)
-  where
-    strict : Bool
-    strict = r.tagged.constraint.strict
-
-    from : ℕ
-    from = at b.numbers.items r.left
-
-    to : ℕ
-    to = at b.numbers.items r.right
-
-    number : ℕ
-    number = at b.numbers.items left
-
-    here : (p : ℕ) → Contains lifted p → at after p ≡ number
-    here p has = lifted_is b.numbers.items after lifted number p w has
-
-    by : MayLift lifted r.left → MayLift lifted r.right → MeetsAt strict (at after r.left) (at after r.right)
-    by (inl x) (inl y) =
-        let less : to < number = (lifted_below b left right r.right lifted h y).1 in
-        let same = here r.left x in
-        let same' = here r.right y in
-        meets_behind strict (at after r.left) (at after r.right) (λ s. let more : number < to = h.plain k r is x s in absurd (omega arith)) (omega arith)
-    by (inl x) (inr n) =
-        let one : 1 ≤ from = (lifted_below b left right r.left lifted h x).0 in
-        let le = meets_in_order strict from to met in
-        let same = here r.left x in
-        let same' = w.other r.right n in
-        let beyond : number ≤ to = elim (compare_or number to) [ inl more ↦ more | inr less ↦ absurd (n ((h.closed.rows k r is x).gathered (omega arith, less))) ] in
-        meets_behind strict (at after r.left) (at after r.right) (λ s. let more : number < to = h.plain k r is x s in omega arith) (omega arith)
-    by (inr n) (inl y) =
-        let less : to < number = (lifted_below b left right r.right lifted h y).1 in
-        let same = here r.right y in
-        subst (λ z. MeetsAt strict z (at after r.right)) (sym (w.other r.left n)) (meets_raised strict from to (at after r.right) met (omega arith))
-    by (inr n) (inr m) = meets_same strict from to (at after r.left) (at after r.right) (w.other r.left n) (w.other r.right m) met
-
--- The lifted numbers meet all rows, and the constraint for which they were lifted.
-pub lifted_raises : (b : Board) (left right : ℕ) (lifted after : List ℕ) → IsSound b → IsLift b left right lifted →
-    AreWritten b.numbers.items after lifted [] (at b.numbers.items left) → AreRaised b left right false after
-lifted_raises b left right lifted after sound h w = record {
-  numbers_are = lifted_numbers b left right lifted after sound.numbers h w;
-  met = λ k r is. lifted_meets b left right lifted after h w k r is (sound.met k r is);
-  new_met =
-      let e = lifted_is b.numbers.items after lifted (at b.numbers.items left) right w h.right_is in
-      let same = w.other left (left_stays b left right lifted h) in omega arith;
-}
-
--- They are in the used parts of the bands.
-pub lifted_in_bands : (bands : List Band) (before after lifted : List ℕ) (left : ℕ) → AreBands bands before → AreWritten before after lifted [] (at before left) → AreBands bands after
-lifted_in_bands bands before after lifted left h w = record {
-  some = h.some;
-  few = h.few;
-  each = h.each;
-  set = h.set;
-  fresh = h.fresh;
-  covered = λ p. elim (contains_or lifted p) [
-    | inl x ↦ subst (IsCovered bands) (sym (lifted_is before after lifted (at before left) p w x)) (h.covered left)
-    | inr n ↦ subst (IsCovered bands) (sym (w.other p n)) (h.covered p)
-  ];
-}
-
-pub lifted_within : (b : Board) (left right : ℕ) (lifted : List ℕ) → IsLift b left right lifted → (p : ℕ) → Contains lifted p → p < length b.numbers.items
-lifted_within b left right lifted h p has = at_within b.numbers.items p (lifted_below b left right p lifted h has).0
-
--- ---- rows that lead behind a number
-
-pub behind_same : (rows : List Row) (numbers : List ℕ) (number k : ℕ) (row r : Row) → slice_get rows k ≡ Some row → slice_get rows k ≡ Some r → LeadsBehind numbers number row → LeadsBehind numbers number r
-behind_same rows numbers number k row r at_k is h = subst (LeadsBehind numbers number) (same_some row r (sym at_k ∙ is)) h
-
--- The rows in a list so far.
-abbrev pub LeadBehindTo : (b : Board) (list : List ℕ) (number n : ℕ) → Type 0
-LeadBehindTo b list number n = (m k : ℕ) (r : Row) → m < n → slice_get list m ≡ Some k → slice_get b.rows.items k ≡ Some r → LeadsBehind b.numbers.items number r
-
-pub behind_more : (b : Board) (list : List ℕ) (number n k : ℕ) → LeadBehindTo b list number n → slice_get list n ≡ Some k →
-    ((r : Row) → slice_get b.rows.items k ≡ Some r → LeadsBehind b.numbers.items number r) → LeadBehindTo b list number (n + 1)
-behind_more b list number n k h is here m l r less at_m at_l = elim (less_or_at m n less) [
-  | inl before ↦ h m l r before at_m at_l
-  | inr e ↦
-      let same : k ≡ l = same_some k l (sym is ∙ sym (ap (slice_get list) e) ∙ at_m) in
-      here r (subst (λ z. slice_get b.rows.items z ≡ Some r) (sym same) at_l)
-]
-
-pub behind_all : (b : Board) (list : List ℕ) (number n : ℕ) → LeadBehindTo b list number n → length list ≤ n → (k : ℕ) (r : Row) → Contains list k → slice_get b.rows.items k ≡ Some r →
-    LeadsBehind b.numbers.items number r
-behind_all b list number n h all k r has is =
-    let place = place_in list k has in
-    let lt = slice_get_within list place.0 k place.1 in
-    h place.0 k r (omega arith) place.1 is
-
--- The rows from the places so far.
-abbrev pub LeadBehindFrom : (b : Board) (places : List ℕ) (number i : ℕ) → Type 0
-LeadBehindFrom b places number i = (j k : ℕ) (r : Row) → j < i → slice_get places j ≡ Some r.left → slice_get b.rows.items k ≡ Some r → LeadsBehind b.numbers.items number r
-
-pub behind_from_more : (b : Board) (places list : List ℕ) (number i p : ℕ) → LeadBehindFrom b places number i → slice_get places i ≡ Some p →
-    ((k : ℕ) (r : Row) → slice_get b.rows.items k ≡ Some r → r.left ≡ p → Contains list k) →
-    ((k : ℕ) (r : Row) → Contains list k → slice_get b.rows.items k ≡ Some r → LeadsBehind b.numbers.items number r) → LeadBehindFrom b places number (i + 1)
-behind_from_more b places list number i p h here listed all j k r less at_j at_k = elim (less_or_at j i less) [
-  | inl before ↦ h j k r before at_j at_k
-  | inr e ↦
-      let same : r.left ≡ p = same_some r.left p (sym at_j ∙ ap (slice_get places) e ∙ here) in
-      all k r (listed k r at_k same) at_k
-]
-
-pub behind_from_all : (b : Board) (places : List ℕ) (number i : ℕ) → LeadBehindFrom b places number i → length places ≤ i → (k : ℕ) (r : Row) → slice_get b.rows.items k ≡ Some r → Contains places r.left →
-    LeadsBehind b.numbers.items number r
-behind_from_all b places number i h all k r is has =
-    let place = place_in places r.left has in
-    let lt = slice_get_within places place.0 r.left place.1 in
-    h place.0 k r (omega arith) place.1 is

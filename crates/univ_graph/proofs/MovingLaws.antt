@@ -4,11 +4,11 @@ use Rattle.std.proofs.Common.{◌<◌, ◌≤◌, ℕ, Bool, List, length, arith
 use Rattle.std.specs.Prelude.{Contains}
 use Rattle.univ_graph.specs.declared.board.Board.{Board}
 use Rattle.univ_graph.specs.declared.plan.Shift.{Shift}
-use Rattle.univ_graph.specs.Boards.{at, AreRaised, IsSound}
-use Rattle.univ_parts.specs.Bands.{AreMovedInto}
-use Rattle.univ_graph.specs.Moves.{AreWritten, AreShifted}
-use Rattle.univ_graph.specs.Plans.{Moves}
-use Rattle.univ_parts.proofs.AtPlaces.{at_within}
+use Rattle.univ_graph.specs.calls.Boards.{at, AreRaised, IsSound}
+use Rattle.univ_nodes.specs.calls.Bands.{AreMovedInto}
+use Rattle.univ_graph.specs.calls.Moves.{AreWritten, AreShifted}
+use Rattle.univ_graph.specs.calls.Plans.{Moves}
+use Rattle.univ_nodes.proofs.AtPlaces.{at_within}
 use Rattle.univ_graph.proofs.Shifting.{written_shifts, shifted_into, shifted_raises}
 
 pub down_within : (b : Board) (left right : ℕ) (s : Shift) → Moves b left right s → (p : ℕ) → Contains s.down p → p < length b.numbers.items

@@ -3,18 +3,18 @@
 use Rattle.std.proofs.Common.{◌≡◌, inl, inr, ◌<◌, ◌≤◌, ◌+◌, ◌*◌, ℕ, zero, List, [], ◌∷◌, length, Bool, true, false, refl, sym, subst, arith}
 use Rattle.std.specs.Prelude.{Contains}
 use Rattle.univ_graph.specs.declared.board.Board.{Board}
-use Rattle.univ_parts.specs.declared.bands.Band.{Band}
-use Rattle.univ_parts.specs.declared.bands.Gap.{Gap}
+use Rattle.univ_nodes.specs.declared.bands.Band.{Band}
+use Rattle.univ_nodes.specs.declared.bands.Gap.{Gap}
 use Rattle.univ_graph.specs.declared.plan.Shift.{Shift}
-use Rattle.univ_parts.specs.Bands.{IsFree, IsGap, band_width}
-use Rattle.univ_graph.specs.Boards.{at, far, near, IsSound, number_bound}
-use Rattle.univ_graph.specs.Moves.{IsClosed, IsShift, AreApart, AreRanked}
+use Rattle.univ_nodes.specs.calls.Bands.{IsFree, IsGap, band_width}
+use Rattle.univ_graph.specs.calls.Boards.{at, far, near, IsSound, number_bound}
+use Rattle.univ_graph.specs.calls.Moves.{IsClosed, IsShift, AreApart, AreRanked}
 use Rattle.univ_graph.specs.declared.search.Found.{Found}
 use Rattle.univ_graph.specs.declared.search.Found.TheVariants.{Gathered, Met, Over}
 use Rattle.univ_graph.specs.declared.plan.Attempt.{Attempt}
 use Rattle.univ_graph.specs.declared.plan.Attempt.TheVariants as A
-use Rattle.univ_graph.specs.Plans.{LeadsTo, IsReached, AreBarred, Fits, Moves, IsFoundBelow, IsFoundAbove, IsFoundPast, IsFitted, IsPlanned}
-use Rattle.univ_parts.proofs.RankLaws.{compare_or}
+use Rattle.univ_graph.specs.calls.Plans.{LeadsTo, IsReached, AreBarred, FitsIntoGap, Moves, IsFoundBelow, IsFoundAbove, IsFoundPast, IsFitted, IsPlanned}
+use Rattle.univ_nodes.proofs.RankLaws.{compare_or}
 
 pub nothing_has : (p : ℕ) → Contains [] p → ⊥
 nothing_has p h = let lt : h.0 < 0 = h.1 in omega arith
@@ -28,7 +28,7 @@ pub nothing_closed : (b : Board) (up : Bool) (bound : ℕ) (barred : List ℕ) �
 nothing_closed b up bound barred = record {
   kept = λ p h. absurd (nothing_has p h);
   apart = λ p h x. nothing_has p h;
-  rows = λ k r is h. absurd (nothing_has (near up r) h);
+  edges = λ k r is h. absurd (nothing_has (near up r) h);
 }
 
 pub nothing_leads : (b : Board) (left right low : ℕ) → at b.numbers.items left < low → LeadsTo b left right low []
@@ -58,8 +58,8 @@ below_between b low high bound barred down from to free closed = record {
     | inr more ↦ omega arith
   ];
   apart = closed.apart;
-  rows = λ k r is has.
-      let way = closed.rows k r is has in
+  edges = λ k r is has.
+      let way = closed.edges k r is has in
       record {
         open_way = way.open_way;
         gathered = λ kept. let m : bound ≤ at b.numbers.items (far false r) = kept in way.gathered (omega arith);
@@ -74,8 +74,8 @@ above_between b low high bound barred up from to free closed = record {
     | inr more ↦ let m = k.1 in absurd (omega arith)
   ];
   apart = closed.apart;
-  rows = λ k r is has.
-      let way = closed.rows k r is has in
+  edges = λ k r is has.
+      let way = closed.edges k r is has in
       record {
         open_way = way.open_way;
         gathered = λ kept. let m = kept.1 in way.gathered (kept.0, omega arith);
@@ -107,7 +107,7 @@ gap_bounded b g sound gap =
     let high = gap.high in omega arith
 
 shift_of : (b : Board) (left right : ℕ) (gap : Gap) (s : Shift) (barred down up : List ℕ) → IsSound b → IsGap b.bands.bands.items gap → LeadsTo b left right gap.low down →
-    AreBarred left down barred → IsReached b right gap.high barred up → Fits b.numbers.items gap down up s → IsShift b left right s.gap.low s.middle s.gap.high barred down up
+    AreBarred left down barred → IsReached b right gap.high barred up → FitsIntoGap b.numbers.items gap down up s → IsShift b left right s.gap.low s.middle s.gap.high barred down up
 shift_of b left right gap s barred down up sound g leads bars reached fits =
     let free = g.free b.numbers.items sound.bands in
     let bounded = gap_bounded b gap sound g in
@@ -132,7 +132,7 @@ shift_of b left right gap s barred down up sound g leads bars reached fits =
     }
 
 pub moves_of : (b : Board) (left right : ℕ) (gap : Gap) (s : Shift) (barred down up : List ℕ) → IsSound b → IsGap b.bands.bands.items gap → LeadsTo b left right gap.low down →
-    AreBarred left down barred → IsReached b right gap.high barred up → Fits b.numbers.items gap down up s → Moves b left right s
+    AreBarred left down barred → IsReached b right gap.high barred up → FitsIntoGap b.numbers.items gap down up s → Moves b left right s
 moves_of b left right gap s barred down up sound g leads bars reached fits =
     let ns = b.numbers.items in
     let shift = shift_of b left right gap s barred down up sound g leads bars reached fits in
@@ -177,6 +177,6 @@ leads_from b left right low p down leads has = elim (compare_or low (at b.number
 
 pub planned_of : (b : Board) (left right : ℕ) (gap : Gap) (barred down up : List ℕ) (a : Attempt) → IsSound b → IsGap b.bands.bands.items gap → LeadsTo b left right gap.low down →
     AreBarred left down barred → IsReached b right gap.high barred up → IsFitted b.numbers.items gap down up a → IsPlanned b left right a
-planned_of b left right gap barred down up (A.Fits s) sound g leads bars reached fits = moves_of b left right gap s barred down up sound g leads bars reached fits
+planned_of b left right gap barred down up (A.FitsIntoGap s) sound g leads bars reached fits = moves_of b left right gap s barred down up sound g leads bars reached fits
 planned_of b left right gap barred down up A.Met sound g leads bars reached fits = tt
 planned_of b left right gap barred down up A.Over sound g leads bars reached fits = tt

@@ -4,16 +4,16 @@ use Rattle.std.proofs.Common.{◌≡◌, ◌∙◌, ◌<◌, ◌≤◌, ◌+◌,
 use Rattle.std.specs.Prelude.{Some, slice_get, ◌||◌}
 use Rattle.cic_names.specs.declared.level.LevelName.{LevelName}
 use Rattle.cic_rules.specs.Numbering.{MeetsAt}
-use Rattle.univ_graph.specs.declared.board.Row.{Row}
+use Rattle.univ_graph.specs.declared.board.Edge.{Edge}
 use Rattle.univ_graph.specs.declared.board.Board.{Board}
 use Rattle.univ_graph.specs.declared.spread.Step.{Step}
 use Rattle.cic_names.specs.declared.level.Level.{Level}
 use Rattle.cic_names.specs.declared.level.Level.TheVariants.{Named}
 use Rattle.std.specs.Option.{option_map}
 use Rattle.std.proofs.lemmas.Option.{slice_get_within}
-use Rattle.univ_parts.specs.Places.{level_at}
-use Rattle.univ_graph.specs.Boards.{at, mark_of, raised, all_raised, least_of, AreNumbers, AreInOrder, AreRaised, IsSound, IsSpread}
-use Rattle.univ_parts.proofs.AtPlaces.{at_within}
+use Rattle.univ_cycles.specs.calls.Places.{level_at}
+use Rattle.univ_graph.specs.calls.Boards.{at, mark_of, raised, all_raised, least_of, AreNumbers, AreInOrder, AreRaised, IsSound, IsSpread}
+use Rattle.univ_nodes.proofs.AtPlaces.{at_within}
 
 pub all_raised_length : (least : ℕ) (ns ms : List ℕ) → length ms ≡ length ns → length (all_raised least ns ms) ≡ length ns
 all_raised_length least [] ms e = refl
@@ -82,11 +82,11 @@ place_within names (suc p) l h = let r = inside names p l h in omega arith
     inside (n ∷ ns) zero k e = omega arith
     inside (n ∷ ns) (suc q) k e = let r = inside ns q k e in omega arith
 
--- Rows with a marked left place have their right place marked.
-closed_row : (b : Board) (from : ℕ) (way : Bool) (marks : List ℕ) (steps : List Step) (m : ℕ) (s : Bool) (k : ℕ) (r : Row) → IsSpread b from way (length steps) marks steps →
-    slice_get b.rows.items k ≡ Some r → 1 ≤ at marks r.left → at marks r.left ≡ m → ((t : Bool) → mark_of t ≡ m → t ≡ s) →
+-- Edges with a marked left place have their right place marked.
+closed_edge : (b : Board) (from : ℕ) (way : Bool) (marks : List ℕ) (steps : List Step) (m : ℕ) (s : Bool) (k : ℕ) (r : Edge) → IsSpread b from way (length steps) marks steps →
+    slice_get b.edges.items k ≡ Some r → 1 ≤ at marks r.left → at marks r.left ≡ m → ((t : Bool) → mark_of t ≡ m → t ≡ s) →
     mark_of (s || r.tagged.constraint.strict) ≤ at marks r.right
-closed_row b from way marks steps m s k r h is one e only =
+closed_edge b from way marks steps m s k r h is one e only =
     let w = h.witness r.left one in
     let t : w.1.strict ≡ s = only w.1.strict (w.4 ∙ e) in
     let c = h.closed w.0 w.1 (slice_get_within steps w.0 w.1 w.2) w.2 k r is (sym w.3) in
@@ -136,8 +136,8 @@ raised_good b left right strict marks steps v sound h none within one ordered =
           let ll : r.left < length ns = let w = place_within b.names r.left r.tagged.constraint.left tied.0 in let l = numbers.lengths in omega arith in
           let lr : r.right < length ns = let w = place_within b.names r.right r.tagged.constraint.right tied.1 in let l = numbers.lengths in omega arith in
           let m = raised_meets least (at ns r.left) (at ns r.right) (at marks r.left) (at marks r.right) r.tagged.constraint.strict (h.small r.left) (h.small r.right)
-          (λ e. closed_row b right strict marks steps 1 false k r h is (let f = e in omega arith) e mark_one)
-          (λ e. closed_row b right strict marks steps 2 true k r h is (let f = e in omega arith) e mark_two)
+          (λ e. closed_edge b right strict marks steps 1 false k r h is (let f = e in omega arith) e mark_one)
+          (λ e. closed_edge b right strict marks steps 2 true k r h is (let f = e in omega arith) e mark_two)
           (sound.met k r is) in
           ordered.order r.tagged.constraint.strict r.left r.right (omega arith) (omega arith)
           (subst (λ x. MeetsAt r.tagged.constraint.strict x (at after r.right)) (sym (raised_at least ns marks r.left h.lengths ll))

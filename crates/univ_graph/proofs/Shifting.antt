@@ -4,13 +4,13 @@ use Rattle.std.proofs.Common.{◌≡◌, ◌∙◌, ◌⊎◌, inl, inr, ◌<◌
 use Rattle.std.specs.Prelude.{Some, slice_get, slice_set, Contains}
 use Rattle.std.proofs.lemmas.Option.{slice_get_within}
 use Rattle.cic_rules.specs.Numbering.{MeetsAt}
-use Rattle.univ_graph.specs.declared.board.Row.{Row}
+use Rattle.univ_graph.specs.declared.board.Edge.{Edge}
 use Rattle.univ_graph.specs.declared.board.Board.{Board}
-use Rattle.univ_parts.specs.Bands.{AreMovedInto}
-use Rattle.univ_graph.specs.Boards.{at, number_bound, AreInOrder, AreNumbers, AreRaised, IsSound, IsMet}
-use Rattle.univ_graph.specs.Moves.{AreApart, AreRanked, AreWritten, AreShifted, IsShift}
-use Rattle.univ_parts.proofs.AtPlaces.{got, get_last, same_some, at_some, at_set_here, at_set_other, set_length, same_or_not}
-use Rattle.univ_parts.proofs.RankLaws.{compare_or, less_or_at, more_length, at_front}
+use Rattle.univ_nodes.specs.calls.Bands.{AreMovedInto}
+use Rattle.univ_graph.specs.calls.Boards.{at, number_bound, AreInOrder, AreNumbers, AreRaised, IsSound, IsMet}
+use Rattle.univ_graph.specs.calls.Moves.{AreApart, AreRanked, AreWritten, AreShifted, IsShift}
+use Rattle.univ_nodes.proofs.AtPlaces.{got, get_last, same_some, at_some, at_set_here, at_set_other, set_length, same_or_not}
+use Rattle.univ_nodes.proofs.RankLaws.{compare_or, less_or_at, more_length, at_front}
 
 -- ---- where a place is
 
@@ -102,7 +102,7 @@ shifted_numbers b left right low middle high barred down up after ns h a = recor
 
 shifted_meets : (b : Board) (left right low middle high : ℕ) (barred down up after : List ℕ) →
     IsShift b left right low middle high barred down up → AreShifted b.numbers.items after low middle high down up →
-    (k : ℕ) (r : Row) → slice_get b.rows.items k ≡ Some r → IsMet b.numbers.items r → IsMet after r
+    (k : ℕ) (r : Edge) → slice_get b.edges.items k ≡ Some r → IsMet b.numbers.items r → IsMet after r
 shifted_meets b left right low middle high barred down up after h a k r is met = by (side down up r.left) (side down up r.right)
   where
     by : Side down up r.left → Side down up r.right → MeetsAt r.tagged.constraint.strict (at after r.left) (at after r.right)
@@ -115,7 +115,7 @@ shifted_meets b left right low middle high barred down up after h a k r is met =
         let same = a.other r.right n.0 n.1 in
         let s = h.second in
         meets_across r.tagged.constraint.strict (at after r.left) (at after r.right) middle (a.down_in r.left x).1 (omega arith)
-    by (inr (inl x)) (inl y) = absurd ((h.up_closed.rows k r is x).open_way (h.barred_down r.right y))
+    by (inr (inl x)) (inl y) = absurd ((h.up_closed.edges k r is x).open_way (h.barred_down r.right y))
     by (inr (inl x)) (inr (inl y)) = a.up_order r.tagged.constraint.strict r.left r.right x y met
     by (inr (inl x)) (inr (inr n)) =
         let here : (1 ≤ at b.numbers.items r.left) × (at b.numbers.items r.left < high) = h.up_closed.kept r.left x in
@@ -124,12 +124,12 @@ shifted_meets b left right low middle high barred down up after h a k r is met =
         let same = a.other r.right n.0 n.1 in
         elim (compare_or high (at b.numbers.items r.right)) [
           | inl beyond ↦ meets_across r.tagged.constraint.strict (at after r.left) (at after r.right) high (a.up_in r.left x).1 (omega arith)
-          | inr less ↦ absurd (n.1 ((h.up_closed.rows k r is x).gathered (omega arith, less)))
+          | inr less ↦ absurd (n.1 ((h.up_closed.edges k r is x).gathered (omega arith, less)))
         ]
     by (inr (inr n)) (inl y) =
         let same = a.other r.left n.0 n.1 in
         elim (compare_or low (at b.numbers.items r.left)) [
-          | inl from ↦ absurd (n.0 ((h.down_closed.2.rows k r is y).gathered from))
+          | inl from ↦ absurd (n.0 ((h.down_closed.2.edges k r is y).gathered from))
           | inr less ↦ meets_across r.tagged.constraint.strict (at after r.left) (at after r.right) low (omega arith) (a.down_in r.right y).0
         ]
     by (inr (inr n)) (inr (inl y)) =
@@ -160,7 +160,7 @@ shifted_new b left right strict low middle high barred down up after h a =
         (λ u. let k : (1 ≤ at b.numbers.items right) × (at b.numbers.items right < high) = h.up_closed.kept right u in let lt = k.1 in absurd (omega arith)) in
         let s = h.second in omega arith
 
--- The moved numbers meet all rows, and the constraint for which they were moved.
+-- The moved numbers meet all edges, and the constraint for which they were moved.
 pub shifted_raises : (b : Board) (left right : ℕ) (strict : Bool) (low middle high : ℕ) (barred down up after : List ℕ) → IsSound b →
     IsShift b left right low middle high barred down up → AreShifted b.numbers.items after low middle high down up → AreRaised b left right strict after
 shifted_raises b left right strict low middle high barred down up after sound h a = record {

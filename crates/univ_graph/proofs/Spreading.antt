@@ -1,16 +1,15 @@
--- One more step keeps what holds of the steps and marks of a search along rows.
--- So what is marked at the end is closed under rows, and each step can be followed back to the start.
+-- One more step keeps what holds of the steps and marks of a search along edges.
+-- So what is marked at the end is closed under edges, and each step can be followed back to the start.
 use Rattle.std.proofs.Common.{◌≡◌, ◌∙◌, ◌⊎◌, inl, inr, ◌<◌, ◌≤◌, ◌+◌, ◌*◌, ℕ, zero, suc, List, [], ◌∷◌, ◌++◌, length, Bool, true, false, refl, ap, sym, subst, arith}
 use Rattle.std.specs.Prelude.{Some, slice_get, slice_set, ◌||◌, Contains, Result, Ok, Err, OnOk, replicate}
 use Rattle.std.proofs.lemmas.Option.{slice_get_within}
-use Rattle.univ_graph.specs.declared.board.Row.{Row}
+use Rattle.univ_graph.specs.declared.board.Edge.{Edge}
 use Rattle.univ_graph.specs.declared.board.Board.{Board}
 use Rattle.univ_graph.specs.declared.spread.Step.{Step}
 use Rattle.cic_rules.specs.Numbering.{MeetsAt}
-use Rattle.univ_parts.specs.Places.{IsFront}
-use Rattle.univ_graph.specs.Boards.{at, total, mark_of, rows_at, IsSound, IsSpread, IsLinked, IsClosedBy}
-use Rattle.univ_parts.proofs.NameTable.{get_more}
-use Rattle.univ_parts.proofs.AtPlaces.{get_old, get_last, at_within, at_set_here, at_set_other, set_length, total_set, total_small, same_or_not, same_some, got}
+use Rattle.univ_nodes.specs.calls.PlaceSets.{IsFront}
+use Rattle.univ_graph.specs.calls.Boards.{at, total, mark_of, edges_at, IsSound, IsSpread, IsLinked, IsClosedBy}
+use Rattle.univ_nodes.proofs.AtPlaces.{get_more, get_old, get_last, at_within, at_set_here, at_set_other, set_length, total_set, total_small, same_or_not, same_some, got}
 
 pub mark_small : (b : Bool) → (1 ≤ mark_of b) × (mark_of b ≤ 2)
 mark_small true = (omega arith, omega arith)
@@ -24,24 +23,24 @@ marks_grow marks p m lt h q = elim (same_or_not p q) [
   | inr n ↦ let same = at_set_other marks p q m n in omega arith
 ]
 
-linked_more : (rows : List Row) (steps more : List Step) (j : ℕ) (s : Step) → IsLinked rows steps j s → IsLinked rows (steps ++ more) j s
-linked_more rows steps more j s h = record {
+linked_more : (edges : List Edge) (steps more : List Step) (j : ℕ) (s : Step) → IsLinked edges steps j s → IsLinked edges (steps ++ more) j s
+linked_more edges steps more j s h = record {
   earlier = h.earlier;
   step = h.step;
-  row = h.row;
+  edge = h.edge;
   step_is = get_old steps more s.before h.step h.step_is;
-  row_is = h.row_is;
+  edge_is = h.edge_is;
   leaves = h.leaves;
   arrives = h.arrives;
   strict = h.strict;
 }
 
-linked_same : (rows : List Row) (steps : List Step) (j : ℕ) (s t : Step) → s ≡ t → IsLinked rows steps j s → IsLinked rows steps j t
-linked_same rows steps j s t e h = subst (λ z. IsLinked rows steps j z) e h
+linked_same : (edges : List Edge) (steps : List Step) (j : ℕ) (s t : Step) → s ≡ t → IsLinked edges steps j s → IsLinked edges steps j t
+linked_same edges steps j s t e h = subst (λ z. IsLinked edges steps j z) e h
 
 pub spread_more : (b : Board) (from : ℕ) (strict : Bool) (done : ℕ) (marks : List ℕ) (steps : List Step) (s : Step) (m : ℕ) →
     IsSpread b from strict done marks steps → 1 ≤ at b.numbers.items s.place →
-    ((j : ℕ) → length steps ≤ suc j → IsLinked b.rows.items steps j s) → m ≡ mark_of s.strict → at marks s.place < m →
+    ((j : ℕ) → length steps ≤ suc j → IsLinked b.edges.items steps j s) → m ≡ mark_of s.strict → at marks s.place < m →
     IsSpread b from strict done (slice_set marks s.place m) (steps ++ s ∷ [])
 spread_more b from strict done marks steps s m h up link is less =
     let lt : s.place < length marks = let w = at_within b.numbers.items s.place up in let e = h.lengths in omega arith in
@@ -63,8 +62,8 @@ spread_more b from strict done marks steps s m h up link is less =
         | inr new ↦ subst (λ z. 1 ≤ at b.numbers.items z.place) new.1 up
       ];
       linked = λ j t is. elim (get_more steps s t (suc j) is) [
-        | inl old ↦ linked_more b.rows.items steps (s ∷ []) j t (h.linked j t old)
-        | inr new ↦ let e : suc j ≡ length steps = new.0 in linked_same b.rows.items (steps ++ s ∷ []) j s t new.1 (linked_more b.rows.items steps (s ∷ []) j s (link j (omega arith)))
+        | inl old ↦ linked_more b.edges.items steps (s ∷ []) j t (h.linked j t old)
+        | inr new ↦ let e : suc j ≡ length steps = new.0 in linked_same b.edges.items (steps ++ s ∷ []) j s t new.1 (linked_more b.edges.items steps (s ∷ []) j s (link j (omega arith)))
       ];
       start = let old = h.start in let g = grow from in omega arith;
       witness = λ p one. elim (same_or_not s.place p) [
@@ -74,8 +73,8 @@ spread_more b from strict done marks steps s m h up link is less =
             let w = h.witness p (subst (λ z. 1 ≤ z) k one) in
             (w.0, w.1, get_old steps (s ∷ []) w.0 w.1 w.2, w.3, w.4 ∙ sym k)
       ];
-      closed = λ j t before is k r row leaves. elim (get_more steps s t j is) [
-        | inl old ↦ let c = h.closed j t before old k r row leaves in let g = grow r.right in omega arith
+      closed = λ j t before is k r edge leaves. elim (get_more steps s t j is) [
+        | inl old ↦ let c = h.closed j t before old k r edge leaves in let g = grow r.right in omega arith
         | inr new ↦ let e : j ≡ length steps = new.0 in let f = h.followed in absurd (omega arith)
       ];
     }
@@ -84,41 +83,41 @@ spread_more b from strict done marks steps s m h up link is less =
     grown_by [] x = refl
     grown_by (y ∷ xs) x = let r = grown_by xs x in omega arith
 
--- ---- along one row
+-- ---- along one edge
 
-row_met : (b : Board) → IsSound b → (k : ℕ) (r : Row) → slice_get b.rows.items k ≡ Some r → 1 ≤ at b.numbers.items r.left → 1 ≤ at b.numbers.items r.right
-row_met b h k r is up = by r.tagged.constraint.strict (h.met k r is)
+edge_met : (b : Board) → IsSound b → (k : ℕ) (r : Edge) → slice_get b.edges.items k ≡ Some r → 1 ≤ at b.numbers.items r.left → 1 ≤ at b.numbers.items r.right
+edge_met b h k r is up = by r.tagged.constraint.strict (h.met k r is)
   where
     by : (s : Bool) → MeetsAt s (at b.numbers.items r.left) (at b.numbers.items r.right) → 1 ≤ at b.numbers.items r.right
     by true m = omega arith
     by false m = omega arith
 
--- What a step along a row needs.
-pub row_step : (b : Board) (from : ℕ) (strict : Bool) (i : ℕ) (marks : List ℕ) (steps : List Step) (s next : Step) (k : ℕ) (r : Row) → IsSound b →
-    IsSpread b from strict i marks steps → slice_get steps i ≡ Some s → slice_get b.rows.items k ≡ Some r → r.left ≡ s.place →
-    next.place ≡ r.right → next.strict ≡ (s.strict || r.tagged.constraint.strict) → next.before ≡ i → next.row ≡ k →
-    (1 ≤ at b.numbers.items next.place) × ((j : ℕ) → length steps ≤ suc j → IsLinked b.rows.items steps j next)
-row_step b from strict i marks steps s next k r sound h is row leaves place way before at_row =
+-- What a step along an edge needs.
+pub edge_step : (b : Board) (from : ℕ) (strict : Bool) (i : ℕ) (marks : List ℕ) (steps : List Step) (s next : Step) (k : ℕ) (r : Edge) → IsSound b →
+    IsSpread b from strict i marks steps → slice_get steps i ≡ Some s → slice_get b.edges.items k ≡ Some r → r.left ≡ s.place →
+    next.place ≡ r.right → next.strict ≡ (s.strict || r.tagged.constraint.strict) → next.before ≡ i → next.edge ≡ k →
+    (1 ≤ at b.numbers.items next.place) × ((j : ℕ) → length steps ≤ suc j → IsLinked b.edges.items steps j next)
+edge_step b from strict i marks steps s next k r sound h is edge leaves place way before at_edge =
     let up : 1 ≤ at b.numbers.items r.left = subst (λ p. 1 ≤ at b.numbers.items p) (sym leaves) (h.above i s is) in
-    let right = row_met b sound k r row up in (
+    let right = edge_met b sound k r edge up in (
       subst (λ p. 1 ≤ at b.numbers.items p) (sym place) right,
       λ j le. record {
         earlier = let w = slice_get_within steps i s is in omega arith;
         step = s;
-        row = r;
+        edge = r;
         step_is = ap (slice_get steps) before ∙ is;
-        row_is = ap (slice_get b.rows.items) at_row ∙ row;
+        edge_is = ap (slice_get b.edges.items) at_edge ∙ edge;
         leaves = leaves;
         arrives = sym place;
         strict = way;
       },
     )
 
--- The rows at a place that have been followed so far.
+-- The edges at a place that have been followed so far.
 pub record IsFollowed (b : Board) (from : ℕ) (strict : Bool) (i : ℕ) (marks : List ℕ) (steps : List Step) (s : Step) (n : ℕ) : Type 0 where
   pub spread : IsSpread b from strict i marks steps
   pub here : slice_get steps i ≡ Some s
-  pub rows : (m k : ℕ) (r : Row) → m < n → slice_get (rows_at b.out.lists.items s.place) m ≡ Some k → slice_get b.rows.items k ≡ Some r → IsClosedBy marks s r
+  pub edges : (m k : ℕ) (r : Edge) → m < n → slice_get (edges_at b.outgoing.lists.items s.place) m ≡ Some k → slice_get b.edges.items k ≡ Some r → IsClosedBy marks s r
 
 before_or_at : (m n : ℕ) → m < n + 1 → (m < n) ⊎ (m ≡ n)
 before_or_at zero zero less = inr refl
@@ -128,24 +127,24 @@ before_or_at (suc m) (suc n) less = elim (before_or_at m n (omega arith)) [ inl 
 
 pub followed_more : (b : Board) (from : ℕ) (strict : Bool) (i : ℕ) (marks marks' : List ℕ) (steps steps' : List Step) (s : Step) (n k : ℕ) →
     IsFollowed b from strict i marks steps s n → IsSpread b from strict i marks' steps' → ((p : ℕ) → at marks p ≤ at marks' p) → IsFront steps steps' →
-    slice_get (rows_at b.out.lists.items s.place) n ≡ Some k → ((s : Step) (r : Row) → slice_get steps i ≡ Some s → slice_get b.rows.items k ≡ Some r → IsClosedBy marks' s r) →
+    slice_get (edges_at b.outgoing.lists.items s.place) n ≡ Some k → ((s : Step) (r : Edge) → slice_get steps i ≡ Some s → slice_get b.edges.items k ≡ Some r → IsClosedBy marks' s r) →
     IsFollowed b from strict i marks' steps' s (n + 1)
 followed_more b from strict i marks marks' steps steps' s n k f h grow front is closed = record {
   spread = h;
   here = subst (λ z. slice_get z i ≡ Some s) (sym front.1) (get_old steps front.0 i s f.here);
-  rows = λ m l r less at_m row leaves. elim (before_or_at m n less) [
+  edges = λ m l r less at_m edge leaves. elim (before_or_at m n less) [
     | inr e ↦
-        let same : k ≡ l = same_some k l (sym is ∙ sym (ap (slice_get (rows_at b.out.lists.items s.place)) e) ∙ at_m) in
-        closed s r f.here (subst (λ z. slice_get b.rows.items z ≡ Some r) (sym same) row) leaves
+        let same : k ≡ l = same_some k l (sym is ∙ sym (ap (slice_get (edges_at b.outgoing.lists.items s.place)) e) ∙ at_m) in
+        closed s r f.here (subst (λ z. slice_get b.edges.items z ≡ Some r) (sym same) edge) leaves
     | inl before ↦
-        let old = f.rows m l r before at_m row leaves in
+        let old = f.edges m l r before at_m edge leaves in
         let g = grow r.right in omega arith
   ];
 }
 
--- Once all its rows have been followed, the step is done.
+-- Once all its edges have been followed, the step is done.
 pub followed_all : (b : Board) (from : ℕ) (strict : Bool) (i : ℕ) (marks : List ℕ) (steps : List Step) (s : Step) (n : ℕ) → IsSound b →
-    IsFollowed b from strict i marks steps s n → length (rows_at b.out.lists.items s.place) ≤ n → IsSpread b from strict (i + 1) marks steps
+    IsFollowed b from strict i marks steps s n → length (edges_at b.outgoing.lists.items s.place) ≤ n → IsSpread b from strict (i + 1) marks steps
 followed_all b from strict i marks steps s n sound f all =
     let h = f.spread in
     record {
@@ -158,16 +157,16 @@ followed_all b from strict i marks steps s n sound f all =
       linked = h.linked;
       start = h.start;
       witness = h.witness;
-      closed = λ j t before is k r row leaves. elim (before_or_at j i before) [
-        | inl less ↦ h.closed j t less is k r row leaves
+      closed = λ j t before is k r edge leaves. elim (before_or_at j i before) [
+        | inl less ↦ h.closed j t less is k r edge leaves
         | inr e ↦
             let same : s ≡ t = same_some s t (sym f.here ∙ sym (ap (slice_get steps) e) ∙ is) in
             let way : r.left ≡ s.place = leaves ∙ ap (λ z. z.place) (sym same) in
-            let has = sound.listed k r row in
-            let listed : Contains (rows_at b.out.lists.items s.place) k = subst (λ p. Contains (rows_at b.out.lists.items p) k) way has in
-            let lt : listed.0 < length (rows_at b.out.lists.items s.place) = listed.1 in
-            let got_it = got (rows_at b.out.lists.items s.place) listed.0 k lt (sym listed.2) in
-            let c = f.rows listed.0 k r (omega arith) got_it row way in
+            let has = sound.listed k r edge in
+            let listed : Contains (edges_at b.outgoing.lists.items s.place) k = subst (λ p. Contains (edges_at b.outgoing.lists.items p) k) way has in
+            let lt : listed.0 < length (edges_at b.outgoing.lists.items s.place) = listed.1 in
+            let got_it = got (edges_at b.outgoing.lists.items s.place) listed.0 k lt (sym listed.2) in
+            let c = f.edges listed.0 k r (omega arith) got_it edge way in
             subst (λ z. mark_of (z.strict || r.tagged.constraint.strict) ≤ at marks r.right) same c
       ];
     }
@@ -182,21 +181,21 @@ pub on_ok_map : {A E P Q : Type 0} (r : Result A E) → (P → Q) → OnOk r P �
 on_ok_map (Ok x) f h = f h
 on_ok_map (Err e) f h = h
 
--- What the row at hand is closed by, where its step was added, or it leaves another place.
-pub closed_by_step : (marks : List ℕ) (steps : List Step) (rows : List Row) (i k : ℕ) (step s : Step) (row r : Row) (way : Bool) →
-    slice_get steps i ≡ Some step → slice_get rows k ≡ Some row → way ≡ (step.strict || row.tagged.constraint.strict) → mark_of way ≤ at marks row.right →
-    slice_get steps i ≡ Some s → slice_get rows k ≡ Some r → IsClosedBy marks s r
-closed_by_step marks steps rows i k step s row r way here at_k is marked same_s same_r leaves =
+-- What the edge at hand is closed by, where its step was added, or it leaves another place.
+pub closed_by_step : (marks : List ℕ) (steps : List Step) (edges : List Edge) (i k : ℕ) (step s : Step) (edge r : Edge) (way : Bool) →
+    slice_get steps i ≡ Some step → slice_get edges k ≡ Some edge → way ≡ (step.strict || edge.tagged.constraint.strict) → mark_of way ≤ at marks edge.right →
+    slice_get steps i ≡ Some s → slice_get edges k ≡ Some r → IsClosedBy marks s r
+closed_by_step marks steps edges i k step s edge r way here at_k is marked same_s same_r leaves =
     let a : step ≡ s = same_some step s (sym here ∙ same_s) in
-    let b : row ≡ r = same_some row r (sym at_k ∙ same_r) in
-    let m : mark_of (step.strict || row.tagged.constraint.strict) ≤ at marks row.right = subst (λ w. mark_of w ≤ at marks row.right) is marked in
+    let b : edge ≡ r = same_some edge r (sym at_k ∙ same_r) in
+    let m : mark_of (step.strict || edge.tagged.constraint.strict) ≤ at marks edge.right = subst (λ w. mark_of w ≤ at marks edge.right) is marked in
     subst (λ z. mark_of (z.strict || r.tagged.constraint.strict) ≤ at marks r.right) a
     (subst (λ z. mark_of (step.strict || z.tagged.constraint.strict) ≤ at marks z.right) b m)
 
-pub closed_by_none : (marks : List ℕ) (steps : List Step) (rows : List Row) (i k : ℕ) (step s : Step) (r : Row) →
-    slice_get steps i ≡ Some step → ((row : Row) → slice_get rows k ≡ Some row → row.left ≡ step.place → ⊥) →
-    slice_get steps i ≡ Some s → slice_get rows k ≡ Some r → IsClosedBy marks s r
-closed_by_none marks steps rows i k step s r here none same_s same_r leaves =
+pub closed_by_none : (marks : List ℕ) (steps : List Step) (edges : List Edge) (i k : ℕ) (step s : Step) (r : Edge) →
+    slice_get steps i ≡ Some step → ((edge : Edge) → slice_get edges k ≡ Some edge → edge.left ≡ step.place → ⊥) →
+    slice_get steps i ≡ Some s → slice_get edges k ≡ Some r → IsClosedBy marks s r
+closed_by_none marks steps edges i k step s r here none same_s same_r leaves =
     let a : step ≡ s = same_some step s (sym here ∙ same_s) in
     absurd (none r same_r (leaves ∙ ap (λ z. z.place) (sym a)))
 

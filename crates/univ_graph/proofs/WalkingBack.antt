@@ -1,4 +1,4 @@
--- From a step of a search back to its start: the rows on the way, in order, are a walk to where the step leads.
+-- From a step of a search back to its start: the edges on the way, in order, are a walk to where the step leads.
 -- With the new constraint before them they are the walk that shows a conflict.
 use Rattle.std.proofs.Common.{◌≡◌, ◌∙◌, ◌⊎◌, inl, inr, ◌<◌, ℕ, zero, suc, List, [], ◌∷◌, ◌++◌, length, reverse, Bool, true, false, refl, ap, sym, subst, arith}
 use Rattle.std.specs.Prelude.{Some, slice_get, ◌||◌, Contains, Result, Ok, Err, IfOk}
@@ -8,19 +8,19 @@ use Rattle.std.proofs.lemmas.List.Elements.{Contains-append_left, Contains-appen
 use Rattle.cic_names.specs.declared.level.LevelName.{LevelName}
 use Rattle.cic_names.specs.declared.level.Level.{Level}
 use Rattle.cic_names.specs.declared.level.Level.TheVariants.{Set, Named}
-use Rattle.univ_parts.specs.declared.cycle.Tag.TheVariants.{Levels}
+use Rattle.univ_cycles.specs.declared.cycle.Tag.TheVariants.{Levels}
 use Rattle.cic_rules.specs.Numbering.{Chain}
-use Rattle.univ_parts.specs.declared.cycle.Tagged.{Tagged}
-use Rattle.univ_graph.specs.declared.board.Row.{Row}
+use Rattle.univ_cycles.specs.declared.cycle.Tagged.{Tagged}
+use Rattle.univ_graph.specs.declared.board.Edge.{Edge}
 use Rattle.univ_graph.specs.declared.board.Board.{Board}
 use Rattle.univ_graph.specs.declared.spread.Step.{Step}
-use Rattle.univ_parts.specs.Numbers.{constraints}
-use Rattle.univ_parts.specs.Walks.{has_strict, IsClosedAt, IsPartOf}
-use Rattle.univ_parts.specs.Places.{level_at}
+use Rattle.univ_cycles.specs.Numbers.{constraints}
+use Rattle.univ_cycles.specs.calls.Walks.{has_strict, IsClosedAt, IsPartOf}
+use Rattle.univ_cycles.specs.calls.Places.{level_at}
 use Rattle.univ_graph.specs.Kept.{AreStepsAmong}
-use Rattle.univ_graph.specs.Boards.{IsSound, IsSpread, IsConflictWalk, tagged}
-use Rattle.univ_parts.proofs.AtPlaces.{same_some}
-use Rattle.univ_parts.proofs.WalkLaws.{one_member}
+use Rattle.univ_graph.specs.calls.Boards.{IsSound, IsSpread, IsConflictWalk, tagged}
+use Rattle.univ_nodes.proofs.AtPlaces.{same_some}
+use Rattle.univ_cycles.proofs.WalkLaws.{one_member}
 
 -- The steps to a list of tagged constraints, of which the last is the first of the way.
 pub record IsWayBack (b : Board) (steps : List Step) (goal : Level) (j : ℕ) (back : List Tagged) : Type 0 where
@@ -28,14 +28,14 @@ pub record IsWayBack (b : Board) (steps : List Step) (goal : Level) (j : ℕ) (b
   pub step_is : slice_get steps j ≡ Some step
   pub chain : (l : Level) → level_at b.names step.place ≡ Some l → Chain l (constraints (reverse back)) goal
   pub strict : (step.strict || has_strict (reverse back)) ≡ true
-  pub among : (t : Tagged) → Contains (reverse back) t → Contains (tagged b.rows.items) t
+  pub among : (t : Tagged) → Contains (reverse back) t → Contains (tagged b.edges.items) t
 
-tagged_member : (rows : List Row) (k : ℕ) (r : Row) → slice_get rows k ≡ Some r → Contains (tagged rows) r.tagged
+tagged_member : (edges : List Edge) (k : ℕ) (r : Edge) → slice_get edges k ≡ Some r → Contains (tagged edges) r.tagged
 tagged_member [] k r is = absurd (cc)
-tagged_member (x ∷ rows) zero r is = (zero, omega arith, ap (λ z. z.tagged) (same_some x r is))
-tagged_member (x ∷ rows) (suc k) r is =
-    let m = tagged_member rows k r is in
-    let lt : m.0 < length (tagged rows) = m.1 in (suc m.0, omega arith, m.2)
+tagged_member (x ∷ edges) zero r is = (zero, omega arith, ap (λ z. z.tagged) (same_some x r is))
+tagged_member (x ∷ edges) (suc k) r is =
+    let m = tagged_member edges k r is in
+    let lt : m.0 < length (tagged edges) = m.1 in (suc m.0, omega arith, m.2)
 
 reverse_more : (xs : List Tagged) (x : Tagged) → reverse (xs ++ x ∷ []) ≡ x ∷ reverse xs
 reverse_more xs x = reverse-append xs (x ∷ [])
@@ -60,15 +60,15 @@ back_start b steps goal j left s is place strict at_left = record {
   among = λ t h. let lt : h.0 < 0 = h.1 in absurd (omega arith);
 }
 
-pub back_more : (b : Board) (from : ℕ) (way : Bool) (n : ℕ) (marks : List ℕ) (steps : List Step) (goal : Level) (j : ℕ) (s : Step) (r : Row) (back : List Tagged) (t : Tagged) →
+pub back_more : (b : Board) (from : ℕ) (way : Bool) (n : ℕ) (marks : List ℕ) (steps : List Step) (goal : Level) (j : ℕ) (s : Step) (r : Edge) (back : List Tagged) (t : Tagged) →
     IsSound b → IsSpread b from way n marks steps → IsWayBack b steps goal (suc j) back → slice_get steps (suc j) ≡ Some s →
-    slice_get b.rows.items s.row ≡ Some r → t ≡ r.tagged → IsWayBack b steps goal s.before (back ++ t ∷ [])
-back_more b from way n marks steps goal j s r back t sound h w is at_row same =
+    slice_get b.edges.items s.edge ≡ Some r → t ≡ r.tagged → IsWayBack b steps goal s.before (back ++ t ∷ [])
+back_more b from way n marks steps goal j s r back t sound h w is at_edge same =
     let link = h.linked j s is in
-    let e : link.row ≡ r = same_some link.row r (sym link.row_is ∙ at_row) in
+    let e : link.edge ≡ r = same_some link.edge r (sym link.edge_is ∙ at_edge) in
     let mine : w.step ≡ s = same_some w.step s (sym w.step_is ∙ is) in
     let turned = reverse_more back t in
-    let tied = sound.tied s.row r at_row in
+    let tied = sound.tied s.edge r at_edge in
     let leaves : r.left ≡ link.step.place = ap (λ z. z.left) (sym e) ∙ link.leaves in
     let arrives : r.right ≡ w.step.place = ap (λ z. z.right) (sym e) ∙ link.arrives ∙ ap (λ z. z.place) (sym mine) in
     let on : w.step.strict ≡ (link.step.strict || r.tagged.constraint.strict) =
@@ -86,14 +86,14 @@ back_more b from way n marks steps goal j s r back t sound h w is at_row same =
           or_moved link.step.strict r.tagged.constraint.strict (has_strict (reverse back)) w.step.strict on w.strict in
           subst (λ z. (link.step.strict || has_strict z) ≡ true) (ap (λ z. z ∷ reverse back) (sym same) ∙ sym turned) k;
       among = λ u has. elim (first_or_rest t u (reverse back) (subst (λ z. Contains z u) turned has)) [
-        | inl first ↦ subst (λ z. Contains (tagged b.rows.items) z) (sym same ∙ first) (tagged_member b.rows.items s.row r at_row)
+        | inl first ↦ subst (λ z. Contains (tagged b.edges.items) z) (sym same ∙ first) (tagged_member b.edges.items s.edge r at_edge)
         | inr rest ↦ w.among u rest
       ];
     }
 
 pub back_whole : (b : Board) (from n left : ℕ) (marks : List ℕ) (steps : List Step) (asked t : Tagged) (back : List Tagged) →
     IsSpread b from asked.constraint.strict n marks steps → level_at b.names from ≡ Some asked.constraint.right → IsWayBack b steps asked.constraint.left 0 back → t ≡ asked →
-    IsConflictWalk asked.constraint.left (tagged b.rows.items ++ asked ∷ []) (reverse (back ++ t ∷ []))
+    IsConflictWalk asked.constraint.left (tagged b.edges.items ++ asked ∷ []) (reverse (back ++ t ∷ []))
 back_whole b from n left marks steps asked t back h at_from w same =
     let turned = reverse_more back t ∙ ap (λ z. z ∷ reverse back) same in
     let mine : h.first.0 ≡ w.step = same_some h.first.0 w.step (sym h.first.1 ∙ w.step_is) in
@@ -105,24 +105,24 @@ back_whole b from n left marks steps asked t back h at_from w same =
       closed = subst (λ z. IsClosedAt asked.constraint.left z) (sym turned) closed;
       strict = ap has_strict turned ∙ sym (ap (λ z. z || has_strict (reverse back)) way) ∙ w.strict;
       steps = λ u has. elim (first_or_rest asked u (reverse back) (subst (λ z. Contains z u) turned has)) [
-        | inl first ↦ inl (Contains-append_right (tagged b.rows.items) (asked ∷ []) u (zero, omega arith, first))
-        | inr more ↦ inl (Contains-append_left (tagged b.rows.items) (asked ∷ []) u (w.among u more))
+        | inl first ↦ inl (Contains-append_right (tagged b.edges.items) (asked ∷ []) u (zero, omega arith, first))
+        | inr more ↦ inl (Contains-append_left (tagged b.edges.items) (asked ∷ []) u (w.among u more))
       ];
     }
 
-pub back_step : (b : Board) (from : ℕ) (way : Bool) (n : ℕ) (marks : List ℕ) (steps : List Step) (goal : Level) (j : ℕ) (s : Step) (r : Row) (back : List Tagged) (t : Tagged) →
+pub back_step : (b : Board) (from : ℕ) (way : Bool) (n : ℕ) (marks : List ℕ) (steps : List Step) (goal : Level) (j : ℕ) (s : Step) (r : Edge) (back : List Tagged) (t : Tagged) →
     0 < j → IsSound b → IsSpread b from way n marks steps → IsWayBack b steps goal j back → slice_get steps j ≡ Some s →
-    slice_get b.rows.items s.row ≡ Some r → t ≡ r.tagged → IsWayBack b steps goal s.before (back ++ t ∷ [])
-back_step b from way n marks steps goal zero s r back t lt sound h w is at_row same = absurd (omega arith)
-back_step b from way n marks steps goal (suc j) s r back t lt sound h w is at_row same = back_more b from way n marks steps goal j s r back t sound h w is at_row same
+    slice_get b.edges.items s.edge ≡ Some r → t ≡ r.tagged → IsWayBack b steps goal s.before (back ++ t ∷ [])
+back_step b from way n marks steps goal zero s r back t lt sound h w is at_edge same = absurd (omega arith)
+back_step b from way n marks steps goal (suc j) s r back t lt sound h w is at_edge same = back_more b from way n marks steps goal j s r back t sound h w is at_edge same
 
--- A step behind the first one comes along a row, from an earlier step.
+-- A step behind the first one comes along an edge, from an earlier step.
 pub step_back : (b : Board) (from : ℕ) (way : Bool) (n : ℕ) (marks : List ℕ) (steps : List Step) (j : ℕ) (s : Step) → 0 < j → IsSpread b from way n marks steps →
-    slice_get steps j ≡ Some s → (s.row < length b.rows.items) × (s.before < j)
+    slice_get steps j ≡ Some s → (s.edge < length b.edges.items) × (s.before < j)
 step_back b from way n marks steps zero s lt h is = absurd (omega arith)
 step_back b from way n marks steps (suc j) s lt h is =
     let l = h.linked j s is in
-    let e = l.earlier in (slice_get_within b.rows.items s.row l.row l.row_is, omega arith)
+    let e = l.earlier in (slice_get_within b.edges.items s.edge l.edge l.edge_is, omega arith)
 
 -- ---- where the right end is Set
 

@@ -8,26 +8,26 @@ use Rattle.cic_names.specs.declared.level.Level.TheVariants.{Set, Named}
 use Rattle.cic_names.specs.declared.constraint.Constraint.{Constraint}
 use Rattle.cic_names.specs.Sameness.{same_level_name}
 use Rattle.cic_rules.specs.Numbering.{Numbering, level_number, IsNumbering, Meets, MeetsAll, Consistent, IsCycle}
-use Rattle.univ_parts.specs.declared.cycle.Tagged.{Tagged}
-use Rattle.univ_parts.specs.declared.cycle.Tag.TheVariants as T
-use Rattle.univ_graph.specs.declared.board.Row.{Row}
+use Rattle.univ_cycles.specs.declared.cycle.Tagged.{Tagged}
+use Rattle.univ_cycles.specs.declared.cycle.Tag.TheVariants as T
+use Rattle.univ_graph.specs.declared.board.Edge.{Edge}
 use Rattle.univ_graph.specs.declared.board.Board.{Board}
 use Rattle.univ_graph.specs.declared.fault.GraphFault.{GraphFault}
 use Rattle.univ_graph.specs.declared.fault.GraphFault.TheVariants.{Conflict, Limit, NoMemory}
-use Rattle.univ_parts.specs.Numbers.{constraints}
-use Rattle.univ_parts.specs.Places.{Kept, level_at, paired, rest}
-use Rattle.univ_graph.specs.Kept.{AreStepsAmong, Answers, IsWitness, with_ends, named_levels, level_count, level_limit}
-use Rattle.univ_parts.specs.Bands.{AreBands}
-use Rattle.univ_graph.specs.Boards.{at, tagged, kept, kept_of, AreNumbers, IsSound, IsWhole, AreWhole, IsConflictAmong}
+use Rattle.univ_cycles.specs.Numbers.{constraints}
+use Rattle.univ_cycles.specs.calls.Places.{level_at, paired, rest}
+use Rattle.univ_graph.specs.Kept.{Kept, AreStepsAmong, Answers, IsWitness, with_ends, named_levels, level_count, level_limit}
+use Rattle.univ_nodes.specs.calls.Bands.{AreBands}
+use Rattle.univ_graph.specs.calls.Boards.{at, tagged, kept, kept_of, AreNumbers, IsSound, IsWhole, AreWhole, IsConflictAmong}
 use Rattle.cic_names.proofs.Equality.{same_level_name_decides}
-use Rattle.univ_parts.proofs.LevelNumbers.{true_or_false, number_here}
-use Rattle.univ_parts.proofs.Cycles.{meets_each, meets_all, cycle_not_consistent}
-use Rattle.univ_parts.proofs.WalkLaws.{constraints_append}
+use Rattle.univ_cycles.proofs.LevelNumbers.{true_or_false, number_here}
+use Rattle.univ_cycles.proofs.Cycles.{meets_each, meets_all, cycle_not_consistent}
+use Rattle.univ_cycles.proofs.WalkLaws.{constraints_append}
 use Rattle.univ_graph.proofs.Soundness.{AreLists, sound_of}
-use Rattle.univ_graph.proofs.LevelLists.{AreDistinct, distinct_from, levels_from_more, kept_numbering, kept_number, rows_meet, kept_levels}
+use Rattle.univ_graph.proofs.LevelLists.{AreDistinct, distinct_from, levels_from_more, kept_numbering, kept_number, edges_meet, kept_levels}
 
 names_distinct : (b : Board) → IsWhole b → AreDistinct b.names
-names_distinct b h = subst AreDistinct (sym h.names) (distinct_from [] (constraints (tagged b.rows.items)) tt)
+names_distinct b h = subst AreDistinct (sym h.names) (distinct_from [] (constraints (tagged b.edges.items)) tt)
 
 pub number_at_place : (b : Board) (p : ℕ) (l : Level) → IsWhole b → level_at b.names p ≡ Some l → level_number (kept b).numbers l ≡ at b.numbers.items p
 number_at_place b p l h is = kept_number b.names b.numbers.items p l (names_distinct b h) h.sound.numbers is
@@ -35,7 +35,7 @@ number_at_place b p l h is = kept_number b.names b.numbers.items p l (names_dist
 pub witness_of : (b : Board) → IsWhole b → IsWitness (kept b)
 witness_of b h = record {
   is_numbering = kept_numbering b.names b.numbers.items (names_distinct b h) h.sound.numbers;
-  meets = rows_meet b.names b.numbers.items b.rows.items (names_distinct b h) h.sound.numbers h.sound.tied h.sound.met;
+  meets = edges_meet b.names b.numbers.items b.edges.items (names_distinct b h) h.sound.numbers h.sound.tied h.sound.met;
   levels = kept_levels b.names b.numbers.items h.sound.numbers ∙ h.names;
 }
 
@@ -56,7 +56,7 @@ first_numbers = record {
     small zero = omega arith
     small (suc p) = omega arith
 
-no_lists : (b : Board) → length b.out.lists.items ≡ 1 → length b.into.lists.items ≡ 1 → AreLists b 1 []
+no_lists : (b : Board) → length b.outgoing.lists.items ≡ 1 → length b.incoming.lists.items ≡ 1 → AreLists b 1 []
 no_lists b out into = record {
   roomy = omega arith;
   roomy_into = omega arith;
@@ -64,38 +64,38 @@ no_lists b out into = record {
   listed_into = λ k r is. absurd (cc);
 }
 
-pub whole_new : (b : Board) → b.names ≡ [] → b.numbers.items ≡ 0 ∷ [] → AreBands b.bands.bands.items (0 ∷ []) → length b.out.lists.items ≡ 1 → length b.into.lists.items ≡ 1 → b.rows.items ≡ [] →
+pub whole_new : (b : Board) → b.names ≡ [] → b.numbers.items ≡ 0 ∷ [] → AreBands b.bands.bands.items (0 ∷ []) → length b.outgoing.lists.items ≡ 1 → length b.incoming.lists.items ≡ 1 → b.edges.items ≡ [] →
     IsWhole b
-whole_new b names numbers bands out into rows = record {
-  sound = sound_of b [] (0 ∷ []) [] (record { names_are = names; numbers_are = numbers; rows_are = rows }) first_numbers bands (no_lists b out into) (λ k r is. absurd (cc)) (λ k r is. absurd (cc));
-  names = names ∙ sym (ap (λ z. named_levels (constraints (tagged z))) rows);
+whole_new b names numbers bands out into edges = record {
+  sound = sound_of b [] (0 ∷ []) [] (record { names_are = names; numbers_are = numbers; edges_are = edges }) first_numbers bands (no_lists b out into) (λ k r is. absurd (cc)) (λ k r is. absurd (cc));
+  names = names ∙ sym (ap (λ z. named_levels (constraints (tagged z))) edges);
   few = subst (λ z. length z + 1 ≤ level_limit) (sym names) (omega arith);
 }
 
-pub kept_new : (names : List LevelName) (ns : List ℕ) (rows : List Row) → names ≡ [] → rows ≡ [] →
-    ◌≡◌ {A = Kept} (record { enforced = tagged rows; numbers = paired names (rest ns) }) (record { enforced = []; numbers = [] })
-kept_new names ns rows no_names no_rows = cc (ap (λ z. paired z (rest ns)) no_names, ap tagged no_rows)
+pub kept_new : (names : List LevelName) (ns : List ℕ) (edges : List Edge) → names ≡ [] → edges ≡ [] →
+    ◌≡◌ {A = Kept} (record { enforced = tagged edges; numbers = paired names (rest ns) }) (record { enforced = []; numbers = [] })
+kept_new names ns edges no_names no_edges = cc (ap (λ z. paired z (rest ns)) no_names, ap tagged no_edges)
 
 -- The names of the levels with one more constraint.
-names_with : (b : Board) (t : Tagged) → IsWhole b → named_levels (constraints (tagged b.rows.items ++ t ∷ [])) ≡ with_ends b.names t.constraint
+names_with : (b : Board) (t : Tagged) → IsWhole b → named_levels (constraints (tagged b.edges.items ++ t ∷ [])) ≡ with_ends b.names t.constraint
 names_with b t h =
-    ap named_levels (constraints_append (tagged b.rows.items) (t ∷ [])) ∙ levels_from_more [] (constraints (tagged b.rows.items)) (t.constraint ∷ [])
+    ap named_levels (constraints_append (tagged b.edges.items) (t ∷ [])) ∙ levels_from_more [] (constraints (tagged b.edges.items)) (t.constraint ∷ [])
     ∙ ap (λ z. with_ends z t.constraint) (sym h.names)
 
-pub count_with : (b : Board) (t : Tagged) → IsWhole b → level_count (constraints (tagged b.rows.items ++ t ∷ [])) ≡ length (with_ends b.names t.constraint) + 1
+pub count_with : (b : Board) (t : Tagged) → IsWhole b → level_count (constraints (tagged b.edges.items ++ t ∷ [])) ≡ length (with_ends b.names t.constraint) + 1
 count_with b t h = ap (λ z. length z + 1) (names_with b t h)
 
 pub whole_after : (old new : Board) (t : Tagged) (r : Result (Unit {0}) GraphFault) → IsWhole old → IsSound new → OnOk r (new.names ≡ with_ends old.names t.constraint) →
-    OnOk r (tagged new.rows.items ≡ tagged old.rows.items ++ t ∷ []) → OnErr r (new.names ≡ old.names) → OnErr r (new.rows.items ≡ old.rows.items) →
+    OnOk r (tagged new.edges.items ≡ tagged old.edges.items ++ t ∷ []) → OnErr r (new.names ≡ old.names) → OnErr r (new.edges.items ≡ old.edges.items) →
     length (with_ends old.names t.constraint) + 1 ≤ level_limit → IsWhole new
-whole_after old new t (Ok x) h sound names taken same_names same_rows few = record {
+whole_after old new t (Ok x) h sound names taken same_names same_edges few = record {
   sound = sound;
   names = names ∙ sym (names_with old t h) ∙ sym (ap (λ z. named_levels (constraints z)) taken);
   few = subst (λ z. length z + 1 ≤ level_limit) (sym names) few;
 }
-whole_after old new t (Err e) h sound names taken same_names same_rows few = record {
+whole_after old new t (Err e) h sound names taken same_names same_edges few = record {
   sound = sound;
-  names = same_names ∙ h.names ∙ sym (ap (λ z. named_levels (constraints (tagged z))) same_rows);
+  names = same_names ∙ h.names ∙ sym (ap (λ z. named_levels (constraints (tagged z))) same_edges);
   few = subst (λ z. length z + 1 ≤ level_limit) (sym same_names) h.few;
 }
 
@@ -141,7 +141,7 @@ not_consistent all cycle cyc steps k =
     })
 
 pub answers_of : (old new : Board) (t : Tagged) (r : Result (Unit {0}) GraphFault) → IsWhole old → IsWhole new →
-    OnOk r (tagged new.rows.items ≡ tagged old.rows.items ++ t ∷ []) → OnErr r (kept new ≡ kept old) → IfErr r (IsConflictAmong (tagged old.rows.items ++ t ∷ [])) →
+    OnOk r (tagged new.edges.items ≡ tagged old.edges.items ++ t ∷ []) → OnErr r (kept new ≡ kept old) → IfErr r (IsConflictAmong (tagged old.edges.items ++ t ∷ [])) →
     length (with_ends old.names t.constraint) + 1 ≤ level_limit → Answers (kept old) (kept new) t r
 answers_of old new t (Ok x) h whole taken same conflict few =
     let w = witness_of new whole in (
@@ -150,6 +150,6 @@ answers_of old new t (Ok x) h whole taken same conflict few =
       record { numbering = (kept new).numbers; is_numbering = w.is_numbering; meets = w.meets },
     )
 answers_of old new t (Err (Conflict cycle)) h whole taken same conflict few =
-    (same, (subst (λ z. z ≤ level_limit) (sym (count_with old t h)) few, not_consistent (tagged old.rows.items ++ t ∷ []) cycle conflict.0 conflict.1, conflict.0, conflict.1))
+    (same, (subst (λ z. z ≤ level_limit) (sym (count_with old t h)) few, not_consistent (tagged old.edges.items ++ t ∷ []) cycle conflict.0 conflict.1, conflict.0, conflict.1))
 answers_of old new t (Err (Limit n)) h whole taken same conflict few = absurd conflict
 answers_of old new t (Err NoMemory) h whole taken same conflict few = (same, tt)

@@ -4,16 +4,19 @@ use Rattle.cic_names.specs.declared.level.LevelName.{LevelName}
 use Rattle.cic_names.specs.declared.level.Level.{Level}
 use Rattle.cic_names.specs.declared.level.Level.TheVariants.{Set, Named}
 use Rattle.cic_names.specs.declared.constraint.Constraint.{Constraint}
-use Rattle.cic_names.specs.Orders.{insert_constraint}
 use Rattle.cic_names.specs.Sameness.{same_level_name}
 use Rattle.cic_rules.specs.Numbering.{Numbering, Consistent, IsNumbering, MeetsAll, IsCycle}
-use Rattle.univ_parts.specs.declared.cycle.Tagged.{Tagged}
-use Rattle.univ_parts.specs.declared.cycle.Tag.TheVariants.{Levels}
+use Rattle.univ_cycles.specs.declared.cycle.Tagged.{Tagged}
+use Rattle.univ_cycles.specs.declared.cycle.Tag.TheVariants.{Levels}
 use Rattle.univ_graph.specs.declared.fault.GraphFault.{GraphFault}
 use Rattle.univ_graph.specs.declared.fault.GraphFault.TheVariants.{Conflict, Limit, NoMemory}
-use Rattle.univ_parts.specs.Numbers.{constraints}
-pub use Rattle.univ_parts.specs.Places.{Kept}
-pub use Rattle.univ_parts.specs.Raised.{level_limit}
+use Rattle.univ_cycles.specs.Numbers.{constraints}
+pub use Rattle.univ_nodes.specs.Limits.{level_limit}
+
+-- What a graph keeps: the constraints that were enforced, in order, and a number for each of their named levels.
+pub record Kept : Type 0 where
+  pub enforced : List Tagged
+  pub numbers : Numbering
 
 -- The named levels among the ends of constraints, each once, in the order in which they come.
 abbrev pub with_name : List LevelName → LevelName → List LevelName
@@ -61,14 +64,6 @@ abbrev pub Answers : (old new : Kept) → Tagged → Result (Unit {0}) GraphFaul
 Answers old new t (Ok _) =
     (new.enforced ≡ old.enforced ++ t ∷ []) × (level_count (constraints new.enforced) ≤ level_limit) × Consistent (constraints new.enforced)
 Answers old new t (Err fault) = (new ≡ old) × Refuses (old.enforced ++ t ∷ []) fault
-
--- The set of constraints, as the list of its members in the order of their byte strings.
-abbrev pub set_from : List Constraint → List Constraint → List Constraint
-set_from set [] = set
-set_from set (c ∷ cs) = set_from (insert_constraint set c) cs
-
-abbrev pub constraint_set : List Constraint → List Constraint
-constraint_set = set_from []
 
 -- The levels of a numbering, in order.
 abbrev pub levels_of : Numbering → List LevelName

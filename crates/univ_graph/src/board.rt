@@ -1,40 +1,42 @@
-//! The parts of a graph: the names of its levels, their numbers, and constraints as rows between places. Set has place 0.
+//! The parts of a graph: the names of its levels, their numbers, and constraints as edges between places. Set has place 0.
 ghost use Rattle.std.specs.Prelude.{◌≡◌, ◌∷◌, ◌++◌, [], ◌≤◌, ◌<◌, length, true, false, Some, MatchOption, OnOk, OnErr, IfOk, slice_get};
 ghost use Rattle.cic_names.specs.declared.level.Level.{Level};
-ghost use Rattle.univ_parts.specs.Places.{IsAbsent, IsAbsentLevel, IsFront, level_at};
+ghost use Rattle.univ_cycles.specs.calls.Places.{IsAbsent, IsAbsentLevel, level_at};
+ghost use Rattle.univ_nodes.specs.calls.PlaceSets.{IsFront};
 ghost use Rattle.univ_graph.specs.Kept.{with_name, with_level};
-ghost use Rattle.univ_graph.specs.Boards.{IsSound, IsWhole, AreListed, kept};
+ghost use Rattle.univ_graph.specs.calls.Boards.{IsSound, IsWhole, AreListed, kept};
 
 use cic_names::{Level, LevelName, NoMemory};
 use std::alloc::Global;
-use univ_parts::{Bands, Names, RowLists, Tagged};
+use univ_cycles::{Names, Tagged};
+use univ_nodes::{Bands, EdgeLists};
 
 /// A constraint and the places of its ends.
 #[derive(Drop)]
-pub struct Row {
+pub struct Edge {
     pub left: usize,
     pub right: usize,
     pub tagged: Tagged,
 }
 
-/// The levels with their numbers, the bands of these, the rows, and for each place the rows that have it at their left
-/// (`out`) and at their right (`into`).
+/// The levels with their numbers, the bands of these, the edges, and for each place the edges that have it at their left
+/// (`outgoing`) and at their right (`incoming`).
 #[derive(Drop)]
 pub struct Board {
     pub names: Names,
     pub numbers: Vec<u32>,
     pub bands: Bands,
-    pub out: RowLists,
-    pub into: RowLists,
-    pub rows: Vec<Row>,
+    pub outgoing: EdgeLists,
+    pub incoming: EdgeLists,
+    pub edges: Vec<Edge>,
 }
 
-fn one_list(alloc: Global) -> Result<RowLists, NoMemory>
+fn one_list(alloc: Global) -> Result<EdgeLists, NoMemory>
     ensures { IfOk result (λ l. length l.lists.items ≡ 1) }
 {
     let mut lists = Vec::new(alloc);
     match lists.push(Vec::new(alloc)) {
-        Ok(()) => Ok(RowLists { lists }),
+        Ok(()) => Ok(EdgeLists { lists }),
         Err(_) => Err(NoMemory),
     }
 }
@@ -53,9 +55,9 @@ impl Board {
             names: Names::new(alloc),
             numbers,
             bands: Bands::new(alloc)?,
-            out: one_list(alloc)?,
-            into: one_list(alloc)?,
-            rows: Vec::new(alloc),
+            outgoing: one_list(alloc)?,
+            incoming: one_list(alloc)?,
+            edges: Vec::new(alloc),
         })
     }
 
@@ -72,22 +74,22 @@ impl Board {
     fn make_room(&mut self, alloc: Global) -> Result<(), NoMemory>
         requires sound { IsSound self.old }
         ensures sound { IsSound self.new }
-        ensures rows { self.new.rows.items ≡ self.old.rows.items }
+        ensures edges { self.new.edges.items ≡ self.old.edges.items }
         ensures names { self.new.names ≡ self.old.names }
         ensures numbers { self.new.numbers.items ≡ self.old.numbers.items }
-        ensures room { OnOk result (length self.new.numbers.items < length self.new.out.lists.items) }
-        ensures room_into { OnOk result (length self.new.numbers.items < length self.new.into.lists.items) }
+        ensures room { OnOk result (length self.new.numbers.items < length self.new.outgoing.lists.items) }
+        ensures room_into { OnOk result (length self.new.numbers.items < length self.new.incoming.lists.items) }
     {
         let places = self.numbers.len();
-        self.out.make_room(alloc, places)?;
-        self.into.make_room(alloc, places)
+        self.outgoing.make_room(alloc, places)?;
+        self.incoming.make_room(alloc, places)
     }
 
     fn add_name(&mut self, alloc: Global, name: &LevelName) -> Result<usize, NoMemory>
         requires sound { IsSound self.old }
         requires absent { IsAbsent name.now self.old.names }
         ensures sound { IsSound self.new }
-        ensures rows { self.new.rows.items ≡ self.old.rows.items }
+        ensures edges { self.new.edges.items ≡ self.old.edges.items }
         ensures names { OnOk result (self.new.names ≡ self.old.names ++ name.now ∷ []) }
         ensures same { OnErr result (self.new.names ≡ self.old.names) }
         ensures numbers { IsFront self.old.numbers.items self.new.numbers.items }
@@ -109,7 +111,7 @@ impl Board {
     pub fn intern(&mut self, alloc: Global, level: &Level) -> Result<usize, NoMemory>
         requires { IsSound self.old }
         ensures sound { IsSound self.new }
-        ensures rows { self.new.rows.items ≡ self.old.rows.items }
+        ensures edges { self.new.edges.items ≡ self.old.edges.items }
         ensures names { OnOk result (self.new.names ≡ with_level self.old.names level.now) }
         ensures front { IsFront self.old.names self.new.names }
         ensures numbers { IsFront self.old.numbers.items self.new.numbers.items }
@@ -124,26 +126,26 @@ impl Board {
         }
     }
 
-    /// Puts a row behind the others.
-    pub fn append(&mut self, row: Row) -> Result<(), NoMemory>
-        requires listed { AreListed true self.old.out.lists.items self.old.rows.items }
-        requires listed_into { AreListed false self.old.into.lists.items self.old.rows.items }
-        requires left { row.left < length self.old.out.lists.items }
-        requires right { row.right < length self.old.into.lists.items }
-        ensures listed { AreListed true self.new.out.lists.items self.new.rows.items }
-        ensures listed_into { AreListed false self.new.into.lists.items self.new.rows.items }
-        ensures room { length self.new.out.lists.items ≡ length self.old.out.lists.items }
-        ensures room_into { length self.new.into.lists.items ≡ length self.old.into.lists.items }
+    /// Puts an edge behind the others.
+    pub fn append(&mut self, edge: Edge) -> Result<(), NoMemory>
+        requires listed { AreListed true self.old.outgoing.lists.items self.old.edges.items }
+        requires listed_into { AreListed false self.old.incoming.lists.items self.old.edges.items }
+        requires left { edge.left < length self.old.outgoing.lists.items }
+        requires right { edge.right < length self.old.incoming.lists.items }
+        ensures listed { AreListed true self.new.outgoing.lists.items self.new.edges.items }
+        ensures listed_into { AreListed false self.new.incoming.lists.items self.new.edges.items }
+        ensures room { length self.new.outgoing.lists.items ≡ length self.old.outgoing.lists.items }
+        ensures room_into { length self.new.incoming.lists.items ≡ length self.old.incoming.lists.items }
         ensures bands { self.new.bands.bands.items ≡ self.old.bands.bands.items }
-        ensures rows { OnOk result (self.new.rows.items ≡ self.old.rows.items ++ row ∷ []) }
-        ensures same { OnErr result (self.new.rows.items ≡ self.old.rows.items) }
+        ensures edges { OnOk result (self.new.edges.items ≡ self.old.edges.items ++ edge ∷ []) }
+        ensures same { OnErr result (self.new.edges.items ≡ self.old.edges.items) }
         ensures names { self.new.names ≡ self.old.names }
         ensures numbers { self.new.numbers.items ≡ self.old.numbers.items }
     {
-        let place = self.rows.len();
-        self.out.put(row.left, place)?;
-        self.into.put(row.right, place)?;
-        match self.rows.push(row) {
+        let place = self.edges.len();
+        self.outgoing.put(edge.left, place)?;
+        self.incoming.put(edge.right, place)?;
+        match self.edges.push(edge) {
             Ok(()) => Ok(()),
             Err(_) => Err(NoMemory),
         }

@@ -1,15 +1,15 @@
 //! Which gaps are tried for a constraint that the numbers do not meet, and how much is followed for each.
 ghost use Rattle.std.specs.Prelude.{◌≡◌, ◌<◌, ◌≤◌, length, IfOk, IfSome, OnOk};
-ghost use Rattle.univ_graph.specs.Boards.{IsSound, at};
-ghost use Rattle.univ_graph.specs.Plans.{IsPlanned, Moves};
+ghost use Rattle.univ_graph.specs.calls.Boards.{IsSound, at};
+ghost use Rattle.univ_graph.specs.calls.Plans.{IsPlanned, Moves};
 
 use crate::board::Board;
 use crate::plan::{Attempt, Limits, Shift};
 use cic_names::NoMemory;
 use std::alloc::Global;
-use univ_parts::{BAND_LIMIT, band_of};
+use univ_nodes::{BAND_LIMIT, band_of};
 
-/// How many places and rows are followed before anything else is tried.
+/// How many places and edges are followed before anything else is tried.
 pub const FEW: usize = 32;
 
 /// As many as there are.
@@ -32,7 +32,7 @@ impl Board {
     pub fn grow_bands(&mut self, number: u32) -> Result<(), NoMemory>
         requires { IsSound self.old }
         ensures sound { IsSound self.new }
-        ensures rows { self.new.rows.items ≡ self.old.rows.items }
+        ensures edges { self.new.edges.items ≡ self.old.edges.items }
         ensures names { self.new.names ≡ self.old.names }
         ensures numbers { self.new.numbers.items ≡ self.old.numbers.items }
     {
@@ -98,7 +98,7 @@ impl Board {
         self.plan(alloc, left, right, below, true, limits)
     }
 
-    /// The first that fits: with few rows, with about the square root of all, or all into the next band.
+    /// The first that fits: with few edges, with about the square root of all, or all into the next band.
     fn try_all(&self, alloc: Global, left: usize, right: usize) -> Result<Attempt, NoMemory>
         requires sound { IsSound self.now }
         requires left { left < length self.now.numbers.items }
@@ -113,7 +113,7 @@ impl Board {
             decided => return Ok(decided),
         }
         let more = Limits {
-            down: about_root(self.rows.len()),
+            down: about_root(self.edges.len()),
             up: ALL,
         };
         match self.try_band(alloc, left, right, band, more)? {
@@ -138,7 +138,7 @@ impl Board {
             return Ok(None);
         }
         match self.try_all(alloc, left, right)? {
-            Attempt::Fits(shift) => Ok(Some(shift)),
+            Attempt::FitsIntoGap(shift) => Ok(Some(shift)),
             Attempt::Met | Attempt::Over => Ok(None),
         }
     }

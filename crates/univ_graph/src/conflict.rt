@@ -1,18 +1,18 @@
 //! Walks that show a conflict: from a constraint along steps back to its left end.
 ghost use Rattle.std.specs.Prelude.{◌≡◌, ℕ, ◌<◌, ◌≤◌, ◌++◌, ◌∷◌, [], length, true, IfOk, IfErr, MatchOption, Some, slice_get};
-ghost use Rattle.univ_graph.specs.Boards.{IsSound, IsSpread, IsTied, IsConflictWalk, IsConflictAmong, tagged};
-ghost use Rattle.univ_parts.specs.Places.{level_at};
+ghost use Rattle.univ_graph.specs.calls.Boards.{IsSound, IsSpread, IsTied, IsConflictWalk, IsConflictAmong, tagged};
+ghost use Rattle.univ_cycles.specs.calls.Places.{level_at};
 ghost use Rattle.univ_graph.specs.declared.spread.Step.{Step};
 ghost use Rattle.cic_names.specs.declared.level.Level.{Level};
 ghost use Rattle.cic_names.specs.declared.level.Level.TheVariants as L;
-ghost use Rattle.univ_parts.specs.declared.cycle.Tag.TheVariants as G;
+ghost use Rattle.univ_cycles.specs.declared.cycle.Tag.TheVariants as G;
 
 use crate::board::Board;
 use crate::fault::GraphFault;
 use crate::spread::{Spread, Step};
 use cic_names::{Constraint, Level, LevelName, NoMemory};
 use std::alloc::Global;
-use univ_parts::{Cycle, Tag, Tagged};
+use univ_cycles::{Cycle, Tag, Tagged};
 
 /// The first step that reaches the place past a strict constraint.
 pub fn strict_step(steps: &[Step], place: usize) -> Option<usize>
@@ -42,18 +42,18 @@ impl Board {
         requires left { level_at self.now.names left ≡ Some asked.now.constraint.left }
         requires right { level_at self.now.names right ≡ Some asked.now.constraint.right }
         requires found { (s : Step) × (slice_get spread.now.steps.items found ≡ Some s) × (s.place ≡ left) × (s.strict ≡ true) }
-        ensures { IfOk result (λ w. IsConflictWalk asked.now.constraint.left (tagged self.now.rows.items ++ asked.now ∷ []) w.items) }
+        ensures { IfOk result (λ w. IsConflictWalk asked.now.constraint.left (tagged self.now.edges.items ++ asked.now ∷ []) w.items) }
     {
         let mut back = Vec::new(alloc);
         let mut j = found;
         while j > 0 {
             let step = spread.steps[j];
-            if back.push(self.rows[step.row].tagged.copy()?).is_err() {
+            if back.push(self.edges[step.edge].tagged.clone()?).is_err() {
                 return Err(NoMemory);
             }
             j = step.before;
         }
-        if back.push(asked.copy()?).is_err() {
+        if back.push(asked.clone()?).is_err() {
             return Err(NoMemory);
         }
         back.reverse();
@@ -68,7 +68,7 @@ fn above_set(name: &LevelName) -> Result<Tagged, NoMemory>
         constraint: Constraint {
             left: Level::Set,
             strict: true,
-            right: Level::Named(name.copy()?),
+            right: Level::Named(name.clone()?),
         },
         tag: Tag::Levels,
     })
@@ -102,11 +102,11 @@ pub fn walk_at_set(alloc: Global, asked: &Tagged) -> Result<Vec<Tagged>, NoMemor
 {
     match &asked.constraint.left {
         Level::Set => {
-            let walk = one_step(alloc, asked.copy()?)?;
+            let walk = one_step(alloc, asked.clone()?)?;
             Ok(walk)
         }
         Level::Named(name) => {
-            let walk = two_steps(alloc, above_set(name)?, asked.copy()?)?;
+            let walk = two_steps(alloc, above_set(name)?, asked.clone()?)?;
             Ok(walk)
         }
     }

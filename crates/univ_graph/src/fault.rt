@@ -1,5 +1,5 @@
 //! Why a graph does not take a constraint.
-use univ_parts::Cycle;
+use univ_cycles::Cycle;
 
 /// Why a constraint was not enforced. The graph is as it was before.
 #[derive(Debug, Drop)]

@@ -1,11 +1,11 @@
 //! A graph of universe constraints: what was enforced, and numbers for its levels that meet it.
 use crate::board::Board;
 use crate::fault::GraphFault;
-use crate::moving::Manner;
+use crate::moving::Strategy;
 use cic_names::{Constraint, Constraints, Level, NoMemory};
 use std::alloc::Global;
 use std::marker::Model;
-use univ_parts::{LevelNumber, Tag, level_number};
+use univ_cycles::{LevelNumber, Tag, level_number};
 
 /// Universe constraints that were enforced with their tags, and a number for each of their levels. Contracts see the
 /// tagged constraints in order and the numbering that is kept. The board is made for the first constraint.
@@ -16,8 +16,8 @@ pub struct Graph {
 }
 
 impl Model for Graph {
-    ghost use Rattle.univ_parts.specs.Places.{Kept};
-    ghost use Rattle.univ_graph.specs.Boards.{kept_of, AreWhole};
+    ghost use Rattle.univ_graph.specs.Kept.{Kept};
+    ghost use Rattle.univ_graph.specs.calls.Boards.{kept_of, AreWhole};
 
     ghost Value = { Kept };
 
@@ -29,8 +29,9 @@ impl Model for Graph {
 impl Graph {
     ghost use Rattle.std.specs.Prelude.{◌≡◌, ◌↔◌, IsTrue, IfOk, []};
     ghost use Rattle.cic_rules.specs.Numbering as rules;
-    ghost use Rattle.univ_graph.specs.Kept.{Answers, IsWitness, constraint_set};
-    ghost use Rattle.univ_parts.specs.Numbers.{numbering, constraints};
+    ghost use Rattle.univ_graph.specs.Kept.{Answers, IsWitness};
+    ghost use Rattle.cic_names.specs.Orders.{insert_constraints};
+    ghost use Rattle.univ_cycles.specs.Numbers.{numbering, constraints};
 
     /// A graph with no constraints.
     pub fn new(alloc: Global) -> Graph
@@ -43,17 +44,17 @@ impl Graph {
         &mut self,
         constraint: &Constraint,
         tag: Tag,
-        manner: Manner,
+        strategy: Strategy,
     ) -> Result<(), GraphFault>
         ensures { Answers self.old self.new (record { constraint = constraint.now; tag = tag }) result }
     {
         match &mut self.board {
-            Some(board) => board.enforce(self.alloc, constraint, tag, manner),
+            Some(board) => board.enforce(self.alloc, constraint, tag, strategy),
             None => {
                 let Ok(mut board) = Board::new(self.alloc) else {
                     return Err(GraphFault::NoMemory);
                 };
-                let answer = board.enforce(self.alloc, constraint, tag, manner);
+                let answer = board.enforce(self.alloc, constraint, tag, strategy);
                 self.board = Some(board);
                 answer
             }
@@ -64,14 +65,14 @@ impl Graph {
     pub fn enforce(&mut self, constraint: &Constraint, tag: Tag) -> Result<(), GraphFault>
         ensures { Answers self.old self.new (record { constraint = constraint.now; tag = tag }) result }
     {
-        self.enforce_in(constraint, tag, Manner::InGaps)
+        self.enforce_in(constraint, tag, Strategy::InGaps)
     }
 
     /// `enforce` by the slow body, which raises all that is reached. It keeps other numbers.
     pub fn enforce_plainly(&mut self, constraint: &Constraint, tag: Tag) -> Result<(), GraphFault>
         ensures { Answers self.old self.new (record { constraint = constraint.now; tag = tag }) result }
     {
-        self.enforce_in(constraint, tag, Manner::Plainly)
+        self.enforce_in(constraint, tag, Strategy::Plainly)
     }
 
     fn number(&self, level: &Level) -> u32
@@ -109,7 +110,7 @@ impl Graph {
 
     /// The set of all that was enforced.
     pub fn enforced(&self) -> Result<Constraints, NoMemory>
-        ensures { IfOk result (λ s. s ≡ constraint_set (constraints self.now.enforced)) }
+        ensures { IfOk result (λ s. s ≡ insert_constraints [] (constraints self.now.enforced)) }
     {
         match &self.board {
             Some(board) => board.enforced(self.alloc),

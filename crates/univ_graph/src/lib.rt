@@ -6,6 +6,7 @@ mod choose;
 mod conflict;
 mod fault;
 mod graph;
+mod join;
 mod merge;
 mod moving;
 mod plan;
@@ -18,7 +19,4 @@ mod told;
 
 pub use fault::GraphFault;
 pub use graph::Graph;
-pub use univ_parts::{Cycle, LevelNumber, Tag, Tagged};
-
-#[cfg(test)]
-mod rows;
+pub use univ_cycles::{Cycle, LevelNumber, Tag, Tagged, level_number, meets};

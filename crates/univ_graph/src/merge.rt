@@ -1,16 +1,16 @@
-//! Levels that become equal for a constraint that is not strict: at the number of its left one, or in a gap.
+//! Levels that become equal in a gap for a constraint that is not strict.
 ghost use Rattle.std.specs.Prelude.{ℕ, ◌≡◌, ◌+◌, ◌<◌, ◌≤◌, length, Contains, Some, slice_get, IsTrue, IfOk, IfSome, OnOk};
-ghost use Rattle.univ_graph.specs.declared.board.Row.{Row};
-ghost use Rattle.univ_parts.specs.Places.{IsFront};
-ghost use Rattle.univ_parts.specs.Bands.{IsGap};
-ghost use Rattle.univ_graph.specs.Boards.{IsSound, at, number_bound};
-ghost use Rattle.univ_graph.specs.Merges.{IsMergedAlong, IsMerging, IsMerged, AreOthers, FitsMerge, IsLift, LeadsBehind, Merges};
+ghost use Rattle.univ_graph.specs.declared.board.Edge.{Edge};
+ghost use Rattle.univ_nodes.specs.calls.PlaceSets.{IsFront};
+ghost use Rattle.univ_nodes.specs.calls.Bands.{IsGap};
+ghost use Rattle.univ_graph.specs.calls.Boards.{IsSound, at, number_bound};
+ghost use Rattle.univ_graph.specs.calls.Merges.{IsMergedAlong, IsMerging, IsMerged, AreOthers, FitsMerge, Merges};
 
 use crate::board::Board;
 use crate::search::{Direction, Found};
 use cic_names::NoMemory;
 use std::alloc::Global;
-use univ_parts::{Gap, Places};
+use univ_nodes::{Gap, Places};
 
 /// New numbers in a gap: the low end for all of `merged`, and those behind it for `others`, in the order of their ranks.
 #[derive(Drop)]
@@ -25,13 +25,6 @@ pub struct Merge {
 const BACK: Direction = Direction {
     up: false,
     bound: 0,
-    most: usize::MAX,
-};
-
-/// All upwards.
-const ON: Direction = Direction {
-    up: true,
-    bound: u32::MAX,
     most: usize::MAX,
 };
 
@@ -50,9 +43,9 @@ fn others_of(alloc: Global, reached: &Places, merged: &Places) -> Result<Places,
 }
 
 impl Board {
-    /// Goes back along the row with a number, where its right end is at a merged place and its left end is reached. False
+    /// Goes back along the edge with a number, where its right end is at a merged place and its left end is reached. False
     /// where it is strict.
-    fn merge_along_row(
+    fn merge_along_edge(
         &self,
         merged: &mut Places,
         place: usize,
@@ -63,45 +56,45 @@ impl Board {
         requires merging { IsMerging self.now reached.now merged.old done }
         ensures merging { OnOk result (IsMerging self.now reached.now merged.new done) }
         ensures front { OnOk result (IsFront merged.old merged.new) }
-        ensures along { IfOk result (λ on. IsTrue on → (r : Row) → slice_get self.now.rows.items k ≡ Some r → r.right ≡ place → IsMergedAlong reached.now merged.new r) }
+        ensures along { IfOk result (λ on. IsTrue on → (r : Edge) → slice_get self.now.edges.items k ≡ Some r → r.right ≡ place → IsMergedAlong reached.now merged.new r) }
     {
-        let Some(row) = self.rows.get(k) else {
+        let Some(edge) = self.edges.get(k) else {
             return Ok(true);
         };
-        if row.right != place || !reached.contains(row.left) {
+        if edge.right != place || !reached.contains(edge.left) {
             return Ok(true);
         }
-        if row.tagged.constraint.strict {
+        if edge.tagged.constraint.strict {
             return Ok(false);
         }
-        merged.insert(row.left)?;
+        merged.insert(edge.left)?;
         Ok(true)
     }
 
-    /// Goes back along all rows to one of the merged places. False where one of them is strict.
+    /// Goes back along all edges to one of the merged places. False where one of them is strict.
     fn merge_from(
         &self,
         merged: &mut Places,
         i: usize,
-        rows: &[usize],
+        edges: &[usize],
         reached: &Places,
     ) -> Result<bool, NoMemory>
         requires merging { IsMerging self.now reached.now merged.old i }
         requires within { i < length merged.old }
-        requires listed { (p k : ℕ) (r : Row) → slice_get merged.old i ≡ Some p → slice_get self.now.rows.items k ≡ Some r → r.right ≡ p → Contains rows.now k }
+        requires listed { (p k : ℕ) (r : Edge) → slice_get merged.old i ≡ Some p → slice_get self.now.edges.items k ≡ Some r → r.right ≡ p → Contains edges.now k }
         ensures merging { IfOk result (λ on. IsTrue on → IsMerging self.now reached.now merged.new (i + 1)) }
         ensures front { OnOk result (IsFront merged.old merged.new) }
     {
         let place = merged.get(i);
-        for k in rows {
-            if !self.merge_along_row(merged, place, *k, reached, i)? {
+        for k in edges {
+            if !self.merge_along_edge(merged, place, *k, reached, i)? {
                 return Ok(false);
             }
         }
         Ok(true)
     }
 
-    /// What leads to the left place within what is reached, if it does along no strict row.
+    /// What leads to the left place within what is reached, if it does along no strict edge.
     fn merged_with(
         &self,
         alloc: Global,
@@ -118,12 +111,12 @@ impl Board {
         let mut open = BACK.most;
         let mut i = 0;
         while i < merged.len() {
-            let rows = self.rows_near(merged.get(i), BACK);
-            if open <= rows.len() {
+            let edges = self.edges_near(merged.get(i), BACK);
+            if open <= edges.len() {
                 return Ok(None);
             }
-            open -= rows.len() + 1;
-            if !self.merge_from(&mut merged, i, rows, reached)? {
+            open -= edges.len() + 1;
+            if !self.merge_from(&mut merged, i, edges, reached)? {
                 return Ok(None);
             }
             i += 1;
@@ -197,74 +190,5 @@ impl Board {
             return Ok(None);
         }
         self.fit_merge(alloc, gap, &reached, merged)
-    }
-
-    /// Whether the row with a number leads behind a number, if it is strict.
-    fn leads_behind(&self, k: usize, number: u32) -> bool
-        requires sound { IsSound self.now }
-        ensures { IsTrue result → (r : Row) → slice_get self.now.rows.items k ≡ Some r → LeadsBehind self.now.numbers.items number r }
-    {
-        let Some(row) = self.rows.get(k) else {
-            return true;
-        };
-        !row.tagged.constraint.strict || number < self.numbers[row.right]
-    }
-
-    /// Whether all rows in a list do so.
-    fn all_lead_behind(&self, rows: &[usize], number: u32) -> bool
-        requires sound { IsSound self.now }
-        ensures { IsTrue result → (k : ℕ) (r : Row) → Contains rows.now k → slice_get self.now.rows.items k ≡ Some r → LeadsBehind self.now.numbers.items number r }
-    {
-        for k in rows {
-            if !self.leads_behind(*k, number) {
-                return false;
-            }
-        }
-        true
-    }
-
-    /// Whether all rows from places do so.
-    fn all_lead_behind_from(&self, places: &Places, number: u32) -> bool
-        requires sound { IsSound self.now }
-        ensures { IsTrue result → (k : ℕ) (r : Row) → slice_get self.now.rows.items k ≡ Some r → Contains places.now r.left → LeadsBehind self.now.numbers.items number r }
-    {
-        for i in 0..places.len() {
-            if !self.all_lead_behind(self.rows_near(places.get(i), ON), number) {
-                return false;
-            }
-        }
-        true
-    }
-
-    /// What gets the number of the left place for a constraint between two places that is not strict, if all that is
-    /// reached from the right one may, and is no more than so many places and rows.
-    pub fn lift_to(
-        &self,
-        alloc: Global,
-        left: usize,
-        right: usize,
-        most: usize,
-    ) -> Result<Option<Places>, NoMemory>
-        requires sound { IsSound self.now }
-        requires left { left < length self.now.numbers.items }
-        requires right { 1 ≤ at self.now.numbers.items right }
-        ensures { IfOk result (λ l. IfSome l (IsLift self.now left right)) }
-    {
-        let number = self.numbers[left];
-        if self.numbers[right] >= number {
-            return Ok(None);
-        }
-        let way = Direction {
-            up: true,
-            bound: number,
-            most,
-        };
-        let Found::Gathered(lifted) = self.gather(alloc, right, way, &Places::new(alloc))? else {
-            return Ok(None);
-        };
-        if !self.all_lead_behind_from(&lifted, number) {
-            return Ok(None);
-        }
-        Ok(Some(lifted))
     }
 }

@@ -1,14 +1,14 @@
 //! How a constraint that the numbers do not meet is met with a gap: what has to move, and where to.
 ghost use Rattle.std.specs.Prelude.{◌≡◌, ℕ, ◌<◌, ◌≤◌, length, Contains, IfOk};
-ghost use Rattle.univ_graph.specs.Boards.{IsSound, at, number_bound};
-ghost use Rattle.univ_parts.specs.Bands.{IsGap};
-ghost use Rattle.univ_graph.specs.Plans.{IsFoundBelow, IsFoundAbove, IsFoundPast, IsFitted, IsPlanned};
+ghost use Rattle.univ_graph.specs.calls.Boards.{IsSound, at, number_bound};
+ghost use Rattle.univ_nodes.specs.calls.Bands.{IsGap};
+ghost use Rattle.univ_graph.specs.calls.Plans.{IsFoundBelow, IsFoundAbove, IsFoundPast, IsFitted, IsPlanned};
 
 use crate::board::Board;
 use crate::search::{Direction, Found};
 use cic_names::NoMemory;
 use std::alloc::Global;
-use univ_parts::{Gap, Places};
+use univ_nodes::{Gap, Places};
 
 /// Numbers that move: those of `down` from the gap's low end on, and those of `up` from `middle` on, in the orders of
 /// their ranks.
@@ -25,14 +25,14 @@ pub struct Shift {
 /// What a try with a gap comes to.
 #[derive(Drop)]
 pub enum Attempt {
-    Fits(Shift),
+    FitsIntoGap(Shift),
     /// A way leads back from the right place to the left one.
     Met,
     /// There is too much to follow, or no room for it.
     Over,
 }
 
-/// How many rows may be followed downwards and upwards.
+/// How many edges may be followed downwards and upwards.
 #[derive(Clone, Copy)]
 pub struct Limits {
     pub down: usize,
@@ -158,7 +158,7 @@ impl Board {
         };
         let down_ranks = self.ranks_at(alloc, &down)?;
         let up_ranks = self.ranks_at(alloc, &up)?;
-        Ok(Attempt::Fits(Shift {
+        Ok(Attempt::FitsIntoGap(Shift {
             gap,
             middle,
             down,

@@ -1,14 +1,14 @@
-//! Searches from a place along rows, in either direction, that stop at numbers beyond a bound.
+//! Searches from a place along edges, in either direction, that stop at numbers beyond a bound.
 ghost use Rattle.std.specs.Prelude.{ℕ, ◌≡◌, ◌+◌, ◌<◌, ◌↔◌, length, Contains, Some, slice_get, IsTrue, IfOk, OnOk};
-ghost use Rattle.univ_graph.specs.declared.board.Row.{Row};
-ghost use Rattle.univ_parts.specs.Places.{IsFront};
-ghost use Rattle.univ_graph.specs.Boards.{IsSound, at, near, far, rows_at};
-ghost use Rattle.univ_graph.specs.Moves.{IsKept, IsClosedAlong, IsSearched, IsFoundFrom};
+ghost use Rattle.univ_graph.specs.declared.board.Edge.{Edge};
+ghost use Rattle.univ_nodes.specs.calls.PlaceSets.{IsFront};
+ghost use Rattle.univ_graph.specs.calls.Boards.{IsSound, at, near, far, edges_at};
+ghost use Rattle.univ_graph.specs.calls.Moves.{IsKept, IsClosedAlong, IsSearched, IsFoundFrom};
 
-use crate::board::{Board, Row};
+use crate::board::{Board, Edge};
 use cic_names::NoMemory;
 use std::alloc::Global;
-use univ_parts::{Places, RowLists};
+use univ_nodes::{EdgeLists, Places};
 
 /// What a search comes to.
 #[derive(Drop)]
@@ -17,31 +17,31 @@ pub enum Found {
     Gathered(Places),
     /// A place that is barred is reached.
     Met,
-    /// More places or rows than were allowed.
+    /// More places or edges than were allowed.
     Over,
 }
 
 /// Where a search goes.
 #[derive(Clone, Copy)]
 pub struct Direction {
-    /// Along rows from left to right, at numbers below the bound; else from right to left, at numbers from the bound on.
+    /// Along edges from left to right, at numbers below the bound; else from right to left, at numbers from the bound on.
     pub up: bool,
     pub bound: u32,
-    /// How many places and rows, counted together, may be followed.
+    /// How many places and edges, counted together, may be followed.
     pub most: usize,
 }
 
 impl Direction {
-    fn near(self, row: &Row) -> usize
-        ensures { result ≡ near self.up row.now }
+    fn near(self, edge: &Edge) -> usize
+        ensures { result ≡ near self.up edge.now }
     {
-        if self.up { row.left } else { row.right }
+        if self.up { edge.left } else { edge.right }
     }
 
-    fn far(self, row: &Row) -> usize
-        ensures { result ≡ far self.up row.now }
+    pub fn far(self, edge: &Edge) -> usize
+        ensures { result ≡ far self.up edge.now }
     {
-        if self.up { row.right } else { row.left }
+        if self.up { edge.right } else { edge.left }
     }
 
     fn keeps(self, number: u32) -> bool
@@ -55,44 +55,45 @@ impl Direction {
     }
 }
 
-fn rows_at(lists: &RowLists, place: usize) -> &[usize]
-    ensures { result.now ≡ rows_at lists.now.lists.items place }
+/// The edges of a place, none where it has no list.
+pub fn edges_at(lists: &EdgeLists, place: usize) -> &[usize]
+    ensures { result.now ≡ edges_at lists.now.lists.items place }
 {
     match lists.lists.get(place) {
-        Some(rows) => rows.as_slice(),
+        Some(edges) => edges.as_slice(),
         None => &[],
     }
 }
 
 impl Board {
-    /// All rows with their near end at a place are among these.
-    pub fn rows_near(&self, place: usize, way: Direction) -> &[usize]
+    /// All edges with their near end at a place are among these.
+    pub fn edges_near(&self, place: usize, way: Direction) -> &[usize]
         requires sound { IsSound self.now }
-        ensures { (k : ℕ) (r : Row) → slice_get self.now.rows.items k ≡ Some r → near way.up r ≡ place → Contains result.now k }
+        ensures { (k : ℕ) (r : Edge) → slice_get self.now.edges.items k ≡ Some r → near way.up r ≡ place → Contains result.now k }
     {
         if way.up {
-            rows_at(&self.out, place)
+            edges_at(&self.outgoing, place)
         } else {
-            rows_at(&self.into, place)
+            edges_at(&self.incoming, place)
         }
     }
 
-    /// Goes along a row. False where it comes to what is barred.
+    /// Goes along an edge. False where it comes to what is barred.
     fn go_along(
         &self,
         places: &mut Places,
-        row: &Row,
+        edge: &Edge,
         way: Direction,
         barred: &Places,
         done: usize,
     ) -> Result<bool, NoMemory>
-        requires within { far way.up row.now < length self.now.numbers.items }
+        requires within { far way.up edge.now < length self.now.numbers.items }
         requires searched { IsSearched self.now way.up way.bound barred.now places.old done }
         ensures searched { OnOk result (IsSearched self.now way.up way.bound barred.now places.new done) }
         ensures front { OnOk result (IsFront places.old places.new) }
-        ensures closed { IfOk result (λ on. IsTrue on → IsClosedAlong self.now.numbers.items way.up way.bound barred.now places.new row.now) }
+        ensures closed { IfOk result (λ on. IsTrue on → IsClosedAlong self.now.numbers.items way.up way.bound barred.now places.new edge.now) }
     {
-        let place = way.far(row);
+        let place = way.far(edge);
         if barred.contains(place) {
             return Ok(false);
         }
@@ -102,8 +103,8 @@ impl Board {
         Ok(true)
     }
 
-    /// Goes along the row with a number, where its near end is at a place. False as above.
-    fn go_along_row(
+    /// Goes along the edge with a number, where its near end is at a place. False as above.
+    fn go_along_edge(
         &self,
         places: &mut Places,
         place: usize,
@@ -116,36 +117,36 @@ impl Board {
         requires searched { IsSearched self.now way.up way.bound barred.now places.old done }
         ensures searched { OnOk result (IsSearched self.now way.up way.bound barred.now places.new done) }
         ensures front { OnOk result (IsFront places.old places.new) }
-        ensures closed { IfOk result (λ on. IsTrue on → (r : Row) → slice_get self.now.rows.items k ≡ Some r → near way.up r ≡ place → IsClosedAlong self.now.numbers.items way.up way.bound barred.now places.new r) }
+        ensures closed { IfOk result (λ on. IsTrue on → (r : Edge) → slice_get self.now.edges.items k ≡ Some r → near way.up r ≡ place → IsClosedAlong self.now.numbers.items way.up way.bound barred.now places.new r) }
     {
-        let Some(row) = self.rows.get(k) else {
+        let Some(edge) = self.edges.get(k) else {
             return Ok(true);
         };
-        if way.near(row) != place {
+        if way.near(edge) != place {
             return Ok(true);
         }
-        self.go_along(places, row, way, barred, done)
+        self.go_along(places, edge, way, barred, done)
     }
 
-    /// Goes along all rows from one of the places. False where one of them comes to what is barred.
+    /// Goes along all edges from one of the places. False where one of them comes to what is barred.
     fn go_from(
         &self,
         places: &mut Places,
         i: usize,
-        rows: &[usize],
+        edges: &[usize],
         way: Direction,
         barred: &Places,
     ) -> Result<bool, NoMemory>
         requires sound { IsSound self.now }
         requires searched { IsSearched self.now way.up way.bound barred.now places.old i }
         requires within { i < length places.old }
-        requires listed { (p k : ℕ) (r : Row) → slice_get places.old i ≡ Some p → slice_get self.now.rows.items k ≡ Some r → near way.up r ≡ p → Contains rows.now k }
+        requires listed { (p k : ℕ) (r : Edge) → slice_get places.old i ≡ Some p → slice_get self.now.edges.items k ≡ Some r → near way.up r ≡ p → Contains edges.now k }
         ensures searched { IfOk result (λ on. IsTrue on → IsSearched self.now way.up way.bound barred.now places.new (i + 1)) }
         ensures front { OnOk result (IsFront places.old places.new) }
     {
         let place = places.get(i);
-        for k in rows {
-            if !self.go_along_row(places, place, *k, way, barred, i)? {
+        for k in edges {
+            if !self.go_along_edge(places, place, *k, way, barred, i)? {
                 return Ok(false);
             }
         }
@@ -170,12 +171,12 @@ impl Board {
         let mut left = way.most;
         let mut i = 0;
         while i < places.len() {
-            let rows = self.rows_near(places.get(i), way);
-            if left <= rows.len() {
+            let edges = self.edges_near(places.get(i), way);
+            if left <= edges.len() {
                 return Ok(Found::Over);
             }
-            left -= rows.len() + 1;
-            if !self.go_from(&mut places, i, rows, way, barred)? {
+            left -= edges.len() + 1;
+            if !self.go_from(&mut places, i, edges, way, barred)? {
                 return Ok(Found::Met);
             }
             i += 1;

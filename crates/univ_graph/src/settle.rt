@@ -3,19 +3,20 @@ ghost use Rattle.std.specs.Prelude.{◌≡◌, ◌<◌, ◌≤◌, ◌++◌, ◌
 ghost use Rattle.cic_rules.specs.Numbering.{MeetsAt};
 ghost use Rattle.cic_names.specs.declared.level.Level.{Level};
 ghost use Rattle.univ_graph.specs.Kept.{AreStepsAmong, level_limit};
-ghost use Rattle.univ_parts.specs.Walks.{IsClosedAt, has_strict};
-ghost use Rattle.univ_parts.specs.declared.cycle.Tagged.{Tagged};
-ghost use Rattle.univ_parts.specs.Places.{level_at};
-ghost use Rattle.univ_graph.specs.Boards.{IsSound, IsConflictAmong, AreRaised, at, tagged, least_of};
-ghost use Rattle.univ_parts.specs.Bands.{AreClose};
+ghost use Rattle.univ_cycles.specs.calls.Walks.{IsClosedAt, has_strict};
+ghost use Rattle.univ_cycles.specs.declared.cycle.Tagged.{Tagged};
+ghost use Rattle.univ_cycles.specs.calls.Places.{level_at};
+ghost use Rattle.univ_graph.specs.calls.Boards.{IsSound, IsConflictAmong, AreRaised, at, tagged, least_of};
+ghost use Rattle.univ_nodes.specs.calls.Bands.{AreClose};
 
-use crate::board::{Board, Row};
+use crate::board::{Board, Edge};
 use crate::conflict::{strict_step, walk_at_set};
 use crate::fault::GraphFault;
-use crate::moving::Manner;
+use crate::moving::Strategy;
 use cic_names::{Level, NoMemory};
 use std::alloc::Global;
-use univ_parts::{Bands, Cycle, Tagged, close, raise};
+use univ_cycles::{Cycle, Tagged};
+use univ_nodes::{Bands, close, raise};
 
 fn meets_at(strict: bool, left: u32, right: u32) -> bool
     ensures { IsTrue result ↔ MeetsAt strict left right }
@@ -58,7 +59,7 @@ impl Board {
         requires not_met { MeetsAt asked.now.constraint.strict (at self.now.numbers.items left) (at self.now.numbers.items right) → ⊥ }
         ensures raised { IfOk result (λ v. AreRaised self.now left right asked.now.constraint.strict v.items) }
         ensures close { IfOk result (λ v. AreClose v.items) }
-        ensures conflict { IfErr result (IsConflictAmong (tagged self.now.rows.items ++ asked.now ∷ [])) }
+        ensures conflict { IfErr result (IsConflictAmong (tagged self.now.edges.items ++ asked.now ∷ [])) }
     {
         if right == 0 {
             let walk = walk_at_set(alloc, asked);
@@ -89,16 +90,16 @@ impl Board {
         requires met { MeetsAt asked.constraint.strict (at self.old.numbers.items left) (at self.old.numbers.items right) }
         ensures sound { IsSound self.new }
         ensures names { self.new.names ≡ self.old.names }
-        ensures taken { OnOk result (tagged self.new.rows.items ≡ tagged self.old.rows.items ++ asked ∷ []) }
-        ensures rows { OnErr result (self.new.rows.items ≡ self.old.rows.items) }
+        ensures taken { OnOk result (tagged self.new.edges.items ≡ tagged self.old.edges.items ++ asked ∷ []) }
+        ensures edges { OnErr result (self.new.edges.items ≡ self.old.edges.items) }
         ensures numbers { self.new.numbers.items ≡ self.old.numbers.items }
     {
-        let row = Row {
+        let edge = Edge {
             left,
             right,
             tagged: asked,
         };
-        self.append(row)
+        self.append(edge)
     }
 
     fn put_raised(
@@ -116,17 +117,17 @@ impl Board {
         requires close { AreClose numbers.items }
         ensures sound { IsSound self.new }
         ensures names { self.new.names ≡ self.old.names }
-        ensures taken { OnOk result (tagged self.new.rows.items ≡ tagged self.old.rows.items ++ asked ∷ []) }
-        ensures rows { OnErr result (self.new.rows.items ≡ self.old.rows.items) }
+        ensures taken { OnOk result (tagged self.new.edges.items ≡ tagged self.old.edges.items ++ asked ∷ []) }
+        ensures edges { OnErr result (self.new.edges.items ≡ self.old.edges.items) }
         ensures numbers { OnErr result (self.new.numbers.items ≡ self.old.numbers.items) }
     {
         let bands = Bands::of_close(alloc)?;
-        let row = Row {
+        let edge = Edge {
             left,
             right,
             tagged: asked,
         };
-        self.append(row)?;
+        self.append(edge)?;
         self.numbers = numbers;
         self.bands = bands;
         Ok(())
@@ -146,10 +147,10 @@ impl Board {
         requires not_met { MeetsAt asked.constraint.strict (at self.old.numbers.items left) (at self.old.numbers.items right) → ⊥ }
         ensures sound { IsSound self.new }
         ensures names { self.new.names ≡ self.old.names }
-        ensures taken { OnOk result (tagged self.new.rows.items ≡ tagged self.old.rows.items ++ asked ∷ []) }
-        ensures rows { OnErr result (self.new.rows.items ≡ self.old.rows.items) }
+        ensures taken { OnOk result (tagged self.new.edges.items ≡ tagged self.old.edges.items ++ asked ∷ []) }
+        ensures edges { OnErr result (self.new.edges.items ≡ self.old.edges.items) }
         ensures numbers { OnErr result (self.new.numbers.items ≡ self.old.numbers.items) }
-        ensures conflict { IfErr result (IsConflictAmong (tagged self.old.rows.items ++ asked ∷ [])) }
+        ensures conflict { IfErr result (IsConflictAmong (tagged self.old.edges.items ++ asked ∷ [])) }
     {
         let numbers = self.raised(alloc, left, right, &asked)?;
         match self.put_raised(alloc, left, right, asked, numbers) {
@@ -165,7 +166,7 @@ impl Board {
         left: usize,
         right: usize,
         asked: Tagged,
-        manner: Manner,
+        strategy: Strategy,
     ) -> Result<(), GraphFault>
         requires sound { IsSound self.old }
         requires left { level_at self.old.names left ≡ Some asked.constraint.left }
@@ -173,10 +174,10 @@ impl Board {
         requires few { length self.old.names + 1 ≤ level_limit }
         ensures sound { IsSound self.new }
         ensures names { self.new.names ≡ self.old.names }
-        ensures taken { OnOk result (tagged self.new.rows.items ≡ tagged self.old.rows.items ++ asked ∷ []) }
-        ensures rows { OnErr result (self.new.rows.items ≡ self.old.rows.items) }
+        ensures taken { OnOk result (tagged self.new.edges.items ≡ tagged self.old.edges.items ++ asked ∷ []) }
+        ensures edges { OnErr result (self.new.edges.items ≡ self.old.edges.items) }
         ensures numbers { OnErr result (self.new.numbers.items ≡ self.old.numbers.items) }
-        ensures conflict { IfErr result (IsConflictAmong (tagged self.old.rows.items ++ asked ∷ [])) }
+        ensures conflict { IfErr result (IsConflictAmong (tagged self.old.edges.items ++ asked ∷ [])) }
     {
         let (n, m) = (self.numbers[left], self.numbers[right]);
         if meets_at(asked.constraint.strict, n, m) {
@@ -186,7 +187,7 @@ impl Board {
             };
         }
         let strict = asked.constraint.strict;
-        let Ok(found) = self.renumbering(alloc, left, right, strict, manner) else {
+        let Ok(found) = self.renumbering(alloc, left, right, strict, strategy) else {
             return Err(GraphFault::NoMemory);
         };
         let Some(found) = found else {

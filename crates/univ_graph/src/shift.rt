@@ -1,12 +1,12 @@
 //! Numbers that are moved into a gap, so that a constraint is met with few new numbers.
 ghost use Rattle.std.specs.Prelude.{ℕ, ◌≡◌, ◌+◌, ◌<◌, ◌≤◌, ◌^◌, [], length, Contains, IfOk};
-ghost use Rattle.univ_graph.specs.Boards.{at, number_bound};
-ghost use Rattle.univ_graph.specs.Moves.{AreRanked, AreWritten};
+ghost use Rattle.univ_graph.specs.calls.Boards.{at, number_bound};
+ghost use Rattle.univ_graph.specs.calls.Moves.{AreRanked, AreWritten};
 
 use crate::board::Board;
 use cic_names::NoMemory;
 use std::alloc::Global;
-use univ_parts::{Places, ranks};
+use univ_nodes::{Places, ranks};
 
 impl Board {
     /// For each of the places how many of them have a lesser number.

@@ -1,22 +1,22 @@
-//! What is reached from a place along rows.
+//! What is reached from a place along edges.
 ghost use Rattle.std.specs.Prelude.{◌≡◌, ℕ, ◌+◌, ◌<◌, ◌≤◌, ◌||◌, length, Some, OnOk, IfOk, slice_get, suc};
-ghost use Rattle.univ_graph.specs.Boards.{IsSound, IsSpread, IsLinked, IsClosedBy, at, mark_of};
-ghost use Rattle.univ_graph.specs.declared.board.Row.{Row};
+ghost use Rattle.univ_graph.specs.calls.Boards.{IsSound, IsSpread, IsLinked, IsClosedBy, at, mark_of};
+ghost use Rattle.univ_graph.specs.declared.board.Edge.{Edge};
 ghost use Rattle.univ_graph.specs.declared.spread.Step.{Step};
-ghost use Rattle.univ_parts.specs.Places.{IsFront};
+ghost use Rattle.univ_nodes.specs.calls.PlaceSets.{IsFront};
 
 use crate::board::Board;
 use cic_names::NoMemory;
 use std::alloc::Global;
 
-/// That a place is reached: along a row, behind an earlier step.
+/// That a place is reached: along an edge, behind an earlier step.
 #[derive(Clone, Copy)]
 pub struct Step {
     pub place: usize,
     /// Whether one of the constraints on the way is strict.
     pub strict: bool,
     pub before: usize,
-    pub row: usize,
+    pub edge: usize,
 }
 
 /// The steps, and for each place 2 where it is reached past a strict constraint, 1 where it is reached, and else 0.
@@ -43,7 +43,7 @@ impl Board {
     ) -> Result<(), NoMemory>
         requires spread { IsSpread self.now from strict done spread.old.marks.items spread.old.steps.items }
         requires above { 1 ≤ at self.now.numbers.items step.place }
-        requires linked { (j : ℕ) → length spread.old.steps.items ≤ suc j → IsLinked self.now.rows.items spread.old.steps.items j step }
+        requires linked { (j : ℕ) → length spread.old.steps.items ≤ suc j → IsLinked self.now.edges.items spread.old.steps.items j step }
         ensures spread { OnOk result (IsSpread self.now from strict done spread.new.marks.items spread.new.steps.items) }
         ensures marked { OnOk result (mark_of step.strict ≤ at spread.new.marks.items step.place) }
         ensures more { OnOk result ((p : ℕ) → at spread.old.marks.items p ≤ at spread.new.marks.items p) }
@@ -59,7 +59,7 @@ impl Board {
         Ok(())
     }
 
-    fn follow_row(
+    fn follow_edge(
         &self,
         spread: &mut Spread,
         i: usize,
@@ -73,16 +73,16 @@ impl Board {
         ensures spread { OnOk result (IsSpread self.now from strict i spread.new.marks.items spread.new.steps.items) }
         ensures more { OnOk result ((p : ℕ) → at spread.old.marks.items p ≤ at spread.new.marks.items p) }
         ensures front { OnOk result (IsFront spread.old.steps.items spread.new.steps.items) }
-        ensures closed { OnOk result ((s : Step) (r : Row) → slice_get spread.old.steps.items i ≡ Some s → slice_get self.now.rows.items k ≡ Some r → IsClosedBy spread.new.marks.items s r) }
+        ensures closed { OnOk result ((s : Step) (r : Edge) → slice_get spread.old.steps.items i ≡ Some s → slice_get self.now.edges.items k ≡ Some r → IsClosedBy spread.new.marks.items s r) }
     {
         let step = spread.steps[i];
-        if k < self.rows.len() && self.rows[k].left == step.place {
-            let row = &self.rows[k];
+        if k < self.edges.len() && self.edges[k].left == step.place {
+            let edge = &self.edges[k];
             let next = Step {
-                place: row.right,
-                strict: step.strict || row.tagged.constraint.strict,
+                place: edge.right,
+                strict: step.strict || edge.tagged.constraint.strict,
                 before: i,
-                row: k,
+                edge: k,
             };
             self.reach(spread, next, i, from, strict)
         } else {
@@ -103,8 +103,8 @@ impl Board {
         ensures spread { OnOk result (IsSpread self.now from strict (i + 1) spread.new.marks.items spread.new.steps.items) }
     {
         let place = spread.steps[i].place;
-        for k in &self.out.lists[place] {
-            self.follow_row(spread, i, *k, from, strict)?;
+        for k in &self.outgoing.lists[place] {
+            self.follow_edge(spread, i, *k, from, strict)?;
         }
         Ok(())
     }
@@ -122,7 +122,7 @@ impl Board {
             place: from,
             strict,
             before: 0,
-            row: 0,
+            edge: 0,
         };
         match steps.push(first) {
             Ok(()) => Ok(Spread { marks, steps }),

@@ -1,15 +1,15 @@
 //! What a graph keeps, told as numbers and lists.
-ghost use Rattle.std.specs.Prelude.{◌≡◌, ◌+◌, length, IfOk};
-ghost use Rattle.univ_graph.specs.Kept.{constraint_set};
-ghost use Rattle.univ_parts.specs.Numbers.{numbering, constraints};
-ghost use Rattle.univ_parts.specs.Places.{paired, rest};
-ghost use Rattle.univ_graph.specs.Boards.{tagged, kept, IsWhole};
+ghost use Rattle.std.specs.Prelude.{◌≡◌, ◌+◌, [], length, IfOk};
+ghost use Rattle.cic_names.specs.Orders.{insert_constraints};
+ghost use Rattle.univ_cycles.specs.Numbers.{numbering, constraints};
+ghost use Rattle.univ_cycles.specs.calls.Places.{paired, rest};
+ghost use Rattle.univ_graph.specs.calls.Boards.{tagged, kept, IsWhole};
 ghost use Rattle.cic_rules.specs.Numbering as rules;
 
 use crate::board::Board;
 use cic_names::{Constraints, Level, NoMemory};
 use std::alloc::Global;
-use univ_parts::LevelNumber;
+use univ_cycles::LevelNumber;
 
 impl Board {
     /// The number of a level: 0 for Set, and 1 for a named level that is not there.
@@ -31,7 +31,7 @@ impl Board {
         let mut told = Vec::new(alloc);
         let names = self.names.names();
         for i in 0..names.len() {
-            let level = names[i].copy()?;
+            let level = names[i].clone()?;
             let number = self.numbers[i + 1];
             if told.push(LevelNumber { level, number }).is_err() {
                 return Err(NoMemory);
@@ -40,13 +40,13 @@ impl Board {
         Ok(told)
     }
 
-    /// The constraints of the rows, as a set.
+    /// The constraints of the edges, as a set.
     pub fn enforced(&self, alloc: Global) -> Result<Constraints, NoMemory>
-        ensures { IfOk result (λ s. s ≡ constraint_set (constraints (tagged self.now.rows.items))) }
+        ensures { IfOk result (λ s. s ≡ insert_constraints [] (constraints (tagged self.now.edges.items))) }
     {
         let mut set = Constraints::new(alloc);
-        for row in &self.rows {
-            set.insert(row.tagged.constraint.copy()?)?;
+        for edge in &self.edges {
+            set.insert(edge.tagged.constraint.clone()?)?;
         }
         Ok(set)
     }

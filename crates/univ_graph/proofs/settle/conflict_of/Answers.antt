@@ -1,7 +1,7 @@
 -- The steps of the cycle are steps of the walk.
 use Rattle.std.proofs.Common.{subst}
 use Rattle.univ_graph.specs.Kept.{AreStepsAmong}
-use Rattle.univ_parts.specs.Walks.{IsPartOf}
+use Rattle.univ_cycles.specs.calls.Walks.{IsPartOf}
 use Rattle.univ_graph.proofs.WalkingBack.{if_ok_here, steps_of_part}
 use Rattle.univ_graph.proofs.settle.conflict_of.Goals as goal
 

@@ -1,6 +1,6 @@
 -- The name and its number are added, or the name is taken away again.
 use Rattle.std.proofs.Common.{◌≡◌, ◌∙◌, ◌-◌, ◌∷◌, [], suc, take, refl, ap, length, arith, rules}
-use Rattle.univ_parts.specs.Places.{level_at}
+use Rattle.univ_cycles.specs.calls.Places.{level_at}
 use Rattle.univ_graph.proofs.Soundness.{sound_more, sound_same, level_last, front_take}
 use Rattle.univ_graph.proofs.board.Board.add_name.Goals as goal
 
@@ -10,7 +10,7 @@ returns-in-Ok-clause-sound c =
     let h = c.make_room.ensures.sound in
     let room = c.in_ok-make_room.ensures.room in
     let room_into = c.in_ok-make_room.ensures.room_into in
-    sound_more b _ c.args.name.now h (record { names_are = c.in_ok-add.ensures.added; numbers_are = c.in-Ok.ensures.items; rows_are = refl }) refl
+    sound_more b _ c.args.name.now h (record { names_are = c.in_ok-add.ensures.added; numbers_are = c.in-Ok.ensures.items; edges_are = refl }) refl
     (record { roomy = omega arith; roomy_into = omega arith; listed = h.listed; listed_into = h.listed_into })
 
 pub returns-in-Ok-clause-place : goal.returns-in-Ok-clause-place
@@ -31,5 +31,5 @@ returns-in-Err-clause-sound c =
     let names : c.truncate.new.self ≡ b.names =
     c.truncate.ensures ∙ ap (λ z. take z c.add.new.self) place ∙ ap (take (length b.names)) c.in_ok-add.ensures.added ∙ front_take b.names (c.args.name.now ∷ []) in
     let h = c.make_room.ensures.sound in
-    sound_same b _ h (record { names_are = names; numbers_are = c.in-Err.ensures.items; rows_are = refl }) refl
+    sound_same b _ h (record { names_are = names; numbers_are = c.in-Err.ensures.items; edges_are = refl }) refl
     (record { roomy = h.roomy; roomy_into = h.roomy_into; listed = h.listed; listed_into = h.listed_into })

@@ -1,9 +1,9 @@
 -- The set so far, into which the rest goes.
-use Rattle.std.proofs.Common.{◌≡◌, drop}
-use Rattle.univ_graph.specs.Kept.{constraint_set, set_from}
-use Rattle.univ_parts.specs.Numbers.{constraints}
-use Rattle.univ_graph.specs.Boards.{tagged}
+use Rattle.std.proofs.Common.{◌≡◌, [], drop}
+use Rattle.cic_names.specs.Orders.{insert_constraints}
+use Rattle.univ_cycles.specs.Numbers.{constraints}
+use Rattle.univ_graph.specs.calls.Boards.{tagged}
 use Rattle.univ_graph.proofs.board.Board.enforced.Given as goal
 
-abbrev pub invariant-loop-row : goal.invariant-loop-row
-invariant-loop-row l = constraint_set (constraints (tagged l.self.rows.items)) ≡ set_from l.set (constraints (tagged (drop l.row-index l.self.rows.items)))
+abbrev pub invariant-loop-edge : goal.invariant-loop-edge
+invariant-loop-edge l = insert_constraints [] (constraints (tagged l.self.edges.items)) ≡ insert_constraints l.set (constraints (tagged (drop l.edge-index l.self.edges.items)))

@@ -1,4 +1,4 @@
--- The rows so far have been followed.
+-- The edges so far have been followed.
 use Rattle.std.proofs.Common.{◌≡◌}
 use Rattle.std.specs.Prelude.{slice_get, Some}
 use Rattle.univ_graph.specs.declared.spread.Step.{Step}

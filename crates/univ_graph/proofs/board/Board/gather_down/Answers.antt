@@ -1,8 +1,8 @@
 -- Nothing leads to the left place where it is below, and else what the search gathers.
 use Rattle.std.proofs.Common.{◌≡◌, ◌<◌, sym, subst}
-use Rattle.univ_graph.specs.Boards.{at}
-use Rattle.univ_graph.specs.Plans.{LeadsTo}
-use Rattle.univ_parts.proofs.AtPlaces.{at_read}
+use Rattle.univ_graph.specs.calls.Boards.{at}
+use Rattle.univ_graph.specs.calls.Plans.{LeadsTo}
+use Rattle.univ_nodes.proofs.AtPlaces.{at_read}
 use Rattle.univ_graph.proofs.PlanLaws.{nothing_leads}
 use Rattle.univ_graph.proofs.board.Board.gather_down.Goals as goal
 

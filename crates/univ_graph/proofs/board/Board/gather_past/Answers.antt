@@ -1,6 +1,6 @@
 -- What leads to the left place is barred, or the left place alone.
 use Rattle.std.proofs.Common.{arith}
-use Rattle.univ_graph.specs.Plans.{AreBarred, IsFoundAbove, IsFoundPast}
+use Rattle.univ_graph.specs.calls.Plans.{AreBarred, IsFoundAbove, IsFoundPast}
 use Rattle.univ_graph.proofs.WalkingBack.{if_ok_map}
 use Rattle.univ_graph.proofs.PlanLaws.{found_past, some_has}
 use Rattle.univ_graph.proofs.board.Board.gather_past.Goals as goal

@@ -1,7 +1,7 @@
 -- The place that is put behind the others is kept and not barred.
 use Rattle.std.proofs.Common.{subst, rules}
-use Rattle.univ_graph.specs.Moves.{IsKept}
-use Rattle.univ_parts.proofs.AtPlaces.{at_read}
+use Rattle.univ_graph.specs.calls.Moves.{IsKept}
+use Rattle.univ_nodes.proofs.AtPlaces.{at_read}
 use Rattle.univ_graph.proofs.SearchLaws.{searched_more}
 use Rattle.univ_graph.proofs.board.Board.go_along.Goals as goal
 

@@ -1,9 +1,9 @@
 -- Each number has its band.
 use Rattle.std.proofs.Common.{◌≡◌, ◌∙◌, ◌<◌, ◌/◌, ap, sym, subst, length}
-use Rattle.univ_parts.specs.Bands.{band_width}
-use Rattle.univ_graph.specs.Boards.{at}
-use Rattle.univ_parts.proofs.AtPlaces.{at_read}
-use Rattle.univ_parts.proofs.BandLaws.{band_there}
+use Rattle.univ_nodes.specs.calls.Bands.{band_width}
+use Rattle.univ_graph.specs.calls.Boards.{at}
+use Rattle.univ_nodes.proofs.AtPlaces.{at_read}
+use Rattle.univ_nodes.proofs.BandLaws.{band_there}
 use Rattle.univ_graph.proofs.board.Board.merge_in.Goals as goal
 
 pub above-gap-requires-clause-within : goal.above-gap-requires-clause-within

@@ -1,9 +1,9 @@
 -- What is merged fits into the gap.
 use Rattle.std.proofs.Common.{◌<◌, ◌≤◌, subst}
 use Rattle.std.specs.Prelude.{Contains, IfSome}
-use Rattle.univ_graph.specs.Boards.{at}
-use Rattle.univ_graph.specs.Merges.{IsMerged, FitsMerge, Merges}
-use Rattle.univ_parts.proofs.AtPlaces.{at_within}
+use Rattle.univ_graph.specs.calls.Boards.{at}
+use Rattle.univ_graph.specs.calls.Merges.{IsMerged, FitsMerge, Merges}
+use Rattle.univ_nodes.proofs.AtPlaces.{at_within}
 use Rattle.univ_graph.proofs.MergeLaws.{gathered_open, merges_of, if_some_map}
 use Rattle.univ_graph.proofs.board.Board.merge_within.Goals as goal
 

@@ -1,6 +1,6 @@
 -- The places so far have been followed. Each takes what is left.
 use Rattle.std.specs.Prelude.{Contains}
-use Rattle.univ_graph.specs.Merges.{IsMerging}
+use Rattle.univ_graph.specs.calls.Merges.{IsMerging}
 use Rattle.univ_graph.proofs.board.Board.merged_with.Given as goal
 
 abbrev pub invariant-loop-i : goal.invariant-loop-i

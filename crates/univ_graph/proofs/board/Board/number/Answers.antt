@@ -1,7 +1,7 @@
 -- The number at the level's place, or 1.
 use Rattle.std.proofs.Common.{◌∙◌, ◌<◌, sym, length, arith}
-use Rattle.univ_parts.specs.Places.{rest}
-use Rattle.univ_parts.proofs.AtPlaces.{at_read}
+use Rattle.univ_cycles.specs.calls.Places.{rest}
+use Rattle.univ_nodes.proofs.AtPlaces.{at_read}
 use Rattle.univ_graph.proofs.Raising.{place_within}
 use Rattle.univ_graph.proofs.LevelLists.{kept_absent}
 use Rattle.univ_graph.proofs.Wholes.{number_at_place}

@@ -1,7 +1,7 @@
 -- The numbers so far, and those that are left.
 use Rattle.std.proofs.Common.{◌≡◌, ◌++◌, drop}
-use Rattle.univ_parts.specs.Numbers.{numbering}
-use Rattle.univ_parts.specs.Places.{paired, rest}
+use Rattle.univ_cycles.specs.Numbers.{numbering}
+use Rattle.univ_cycles.specs.calls.Places.{paired, rest}
 use Rattle.univ_graph.proofs.board.Board.numbering.Given as goal
 
 abbrev pub invariant-loop-i : goal.invariant-loop-i

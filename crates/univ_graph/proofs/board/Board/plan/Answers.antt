@@ -1,8 +1,8 @@
 -- What is gathered on both sides of the gap moves into it.
 use Rattle.std.proofs.Common.{◌≤◌, arith}
-use Rattle.univ_graph.specs.Boards.{at}
-use Rattle.univ_graph.specs.Plans.{IsFitted, IsPlanned}
-use Rattle.univ_parts.proofs.AtPlaces.{at_within}
+use Rattle.univ_graph.specs.calls.Boards.{at}
+use Rattle.univ_graph.specs.calls.Plans.{IsFitted, IsPlanned}
+use Rattle.univ_nodes.proofs.AtPlaces.{at_within}
 use Rattle.univ_graph.proofs.WalkingBack.{if_ok_map}
 use Rattle.univ_graph.proofs.PlanLaws.{gathered_below, gathered_past, leads_from, planned_of}
 use Rattle.univ_graph.proofs.board.Board.plan.Goals as goal

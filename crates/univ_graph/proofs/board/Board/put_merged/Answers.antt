@@ -1,9 +1,9 @@
--- One more row, and one number of the gap for what is merged, with numbers behind it.
+-- One more edge, and one number of the gap for what is merged, with numbers behind it.
 use Rattle.std.proofs.Common.{◌≡◌, ◌∙◌, ◌<◌, ◌+◌, ◌++◌, ◌∷◌, [], length, ap, refl, subst, sym, arith}
-use Rattle.univ_graph.specs.declared.board.Row.{Row}
-use Rattle.univ_graph.specs.Boards.{tagged, AreRaised}
-use Rattle.univ_parts.specs.Bands.{AreBands}
-use Rattle.univ_graph.specs.Moves.{AreWritten}
+use Rattle.univ_graph.specs.declared.board.Edge.{Edge}
+use Rattle.univ_graph.specs.calls.Boards.{tagged, AreRaised}
+use Rattle.univ_nodes.specs.calls.Bands.{AreBands}
+use Rattle.univ_graph.specs.calls.Moves.{AreWritten}
 use Rattle.univ_graph.proofs.Soundness.{level_listed, sound_taken_with, sound_not_taken, lists_put, tagged_more}
 use Rattle.univ_graph.proofs.MergeLaws.{merged_within, others_within, put_raises, put_into}
 use Rattle.univ_graph.proofs.board.Board.put_merged.Goals as goal
@@ -19,7 +19,7 @@ returns-in_err-append-clause-sound c =
     let b = c.args.self.now in
     let new = c.append.new.self in
     let e = c.append.ensures in
-    sound_not_taken b new c.requires.sound (record { names_are = e.names; numbers_are = e.numbers; rows_are = c.in_err-append.ensures.same }) e.bands
+    sound_not_taken b new c.requires.sound (record { names_are = e.names; numbers_are = e.numbers; edges_are = c.in_err-append.ensures.same }) e.bands
     (lists_put b new c.requires.sound e.room e.room_into e.listed e.listed_into)
 
 pub write_same-requires : goal.write_same-requires
@@ -39,9 +39,9 @@ pub returns-clause-sound : goal.returns-clause-sound
 returns-clause-sound c =
     let b = c.args.self.now in
     let m = c.args.merge.now in
-    let row : Row = record { left = c.args.left; right = c.args.right; tagged = c.args.asked } in
+    let edge : Edge = record { left = c.args.left; right = c.args.right; tagged = c.args.asked } in
     let e = c.append.ensures in
-    let rows : c.append.new.self.rows.items ≡ b.rows.items ++ row ∷ [] = c.in_ok-append.ensures.rows in
+    let edges : c.append.new.self.edges.items ≡ b.edges.items ++ edge ∷ [] = c.in_ok-append.ensures.edges in
     let mid = c.write_same.new.numbers.items in
     let after = c.write.new.numbers.items in
     let first : AreWritten b.numbers.items mid m.merged [] m.gap.low = subst (λ z. AreWritten z mid m.merged [] m.gap.low) e.numbers c.write_same.ensures in
@@ -49,10 +49,10 @@ returns-clause-sound c =
     let plain = put_raises b c.args.left c.args.right m mid after c.requires.sound c.requires.merges first second in
     let raised = subst (λ z. AreRaised b c.args.left c.args.right z after) (sym c.requires.plain) plain in
     let bands = c.cover.ensures b.numbers.items after (subst (λ z. AreBands z b.numbers.items) (sym e.bands) c.requires.sound.bands) (put_into b c.args.left c.args.right m mid after c.requires.merges first second) in
-    sound_taken_with b c.append.new.self _ row after c.requires.sound raised (c.requires.left, c.requires.right) rows (lists_put b c.append.new.self c.requires.sound e.room e.room_into e.listed e.listed_into)
-    (record { names_are = e.names; numbers_are = refl; rows_are = refl }) refl refl bands
+    sound_taken_with b c.append.new.self _ edge after c.requires.sound raised (c.requires.left, c.requires.right) edges (lists_put b c.append.new.self c.requires.sound e.room e.room_into e.listed e.listed_into)
+    (record { names_are = e.names; numbers_are = refl; edges_are = refl }) refl refl bands
 
 pub returns-clause-taken : goal.returns-clause-taken
 returns-clause-taken c =
-    let row : Row = record { left = c.args.left; right = c.args.right; tagged = c.args.asked } in
-    ap tagged c.in_ok-append.ensures.rows ∙ tagged_more c.args.self.now.rows.items row
+    let edge : Edge = record { left = c.args.left; right = c.args.right; tagged = c.args.asked } in
+    ap tagged c.in_ok-append.ensures.edges ∙ tagged_more c.args.self.now.edges.items edge

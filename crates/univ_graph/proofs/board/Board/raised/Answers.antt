@@ -3,16 +3,16 @@ use Rattle.std.proofs.Common.{◌≡◌, ◌∙◌, ◌<◌, ◌++◌, ◌∷◌
 use Rattle.std.specs.Prelude.{slice_get, Some}
 use Rattle.univ_graph.specs.declared.spread.Step.{Step}
 use Rattle.univ_graph.specs.Kept.{AreStepsAmong}
-use Rattle.univ_graph.specs.Boards.{at, all_raised, least_of, tagged, IsConflictWalk, AreInOrder}
+use Rattle.univ_graph.specs.calls.Boards.{at, all_raised, least_of, tagged, IsConflictWalk, AreInOrder}
 use Rattle.cic_names.specs.declared.level.Level.TheVariants as L
-use Rattle.univ_parts.proofs.AtPlaces.{at_read}
+use Rattle.univ_nodes.proofs.AtPlaces.{at_read}
 use Rattle.univ_graph.proofs.Raising.{raised_good, above_set, all_raised_length, place_within}
 use Rattle.univ_graph.proofs.WalkingBack.{if_ok_map, steps_of_last}
 use Rattle.univ_graph.proofs.board.Board.raised.Goals as goal
 
 pub returns-then-right-eq0-clause-conflict : goal.returns-then-right-eq0-clause-conflict
 returns-then-right-eq0-clause-conflict c =
-    let all = tagged c.args.self.now.rows.items in
+    let all = tagged c.args.self.now.edges.items in
     c.conflict_of.ensures (all ++ c.args.asked.now ∷ [])
     (if_ok_map (λ w. IsConflictWalk L.Set (c.args.asked.now ∷ []) w.items) (λ w. AreStepsAmong (all ++ c.args.asked.now ∷ []) w.items) c.walk_at_set-walk.result
     (λ w h. steps_of_last all c.args.asked.now w.items h.steps) c.walk_at_set-walk.ensures)

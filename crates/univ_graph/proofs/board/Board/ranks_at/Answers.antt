@@ -1,9 +1,9 @@
 -- The number of one more place, and at the end the ranks of all.
 use Rattle.std.proofs.Common.{◌≡◌, ◌≤◌, ◌+◌, ◌++◌, ◌∷◌, [], ℕ, length, sym, subst, rules, arith}
 use Rattle.std.specs.Prelude.{Result, Ok, Err, IfOk}
-use Rattle.univ_graph.specs.Boards.{at, AreInOrder}
-use Rattle.univ_graph.specs.Moves.{AreRanked}
-use Rattle.univ_parts.proofs.AtPlaces.{at_read}
+use Rattle.univ_graph.specs.calls.Boards.{at, AreInOrder}
+use Rattle.univ_graph.specs.calls.Moves.{AreRanked}
+use Rattle.univ_nodes.proofs.AtPlaces.{at_read}
 use Rattle.univ_graph.proofs.Shifting.{AreNumbersAt, has_index, numbers_more, ranked_of}
 use Rattle.univ_graph.proofs.board.Board.ranks_at.Goals as goal
 

@@ -2,8 +2,8 @@
 use Rattle.std.proofs.Common.{◌≡◌, ◌<◌, ◌++◌, ◌∷◌, [], sym, subst, length, arith, List, rules}
 use Rattle.std.specs.Prelude.{slice_set}
 use Rattle.univ_graph.specs.declared.spread.Step.{Step}
-use Rattle.univ_graph.specs.Boards.{at, IsSpread}
-use Rattle.univ_parts.proofs.AtPlaces.{at_within, at_read}
+use Rattle.univ_graph.specs.calls.Boards.{at, IsSpread}
+use Rattle.univ_nodes.proofs.AtPlaces.{at_within, at_read}
 use Rattle.univ_graph.proofs.Spreading.{spread_more}
 use Rattle.univ_graph.proofs.board.Board.reach.Goals as goal
 

@@ -1,8 +1,8 @@
 -- The numbers do not meet the constraint still, where no gap was found.
 use Rattle.std.proofs.Common.{◌≡◌, sym, subst, ℕ, List}
 use Rattle.cic_rules.specs.Numbering.{MeetsAt}
-use Rattle.univ_graph.specs.Boards.{at}
-use Rattle.univ_parts.proofs.AtPlaces.{at_read}
+use Rattle.univ_graph.specs.calls.Boards.{at}
+use Rattle.univ_nodes.proofs.AtPlaces.{at_read}
 use Rattle.univ_graph.proofs.Soundness.{level_within}
 use Rattle.univ_graph.proofs.board.Board.settle.Goals as goal
 

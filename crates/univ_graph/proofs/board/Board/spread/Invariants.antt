@@ -1,6 +1,6 @@
 -- The steps so far have been followed. There are at most twice as many steps as places.
 use Rattle.std.proofs.Common.{◌*◌, ◌-◌, length}
-use Rattle.univ_graph.specs.Boards.{IsSpread}
+use Rattle.univ_graph.specs.calls.Boards.{IsSpread}
 use Rattle.univ_graph.proofs.board.Board.spread.Given as goal
 
 abbrev pub invariant-loop-i : goal.invariant-loop-i

@@ -15,4 +15,4 @@ returns-in-Err-clause-sound c =
     let count : length c.names-known.result.now + 1 ≡ length old.numbers.items = let e = c.requires.sound.numbers.lengths in omega arith in
     let numbers : c.truncate-in-Err.new.self.items ≡ old.numbers.items =
     c.truncate-in-Err.ensures.items ∙ ap (λ z. take z mid.numbers.items) count ∙ ap (take (length old.numbers.items)) more.1 ∙ front_take old.numbers.items more.0 in
-    sound_back old mid _ c.requires.sound c.try_take.ensures.sound (record { names_are = names; numbers_are = numbers; rows_are = refl }) refl refl refl c.in-Err.ensures.rows more
+    sound_back old mid _ c.requires.sound c.try_take.ensures.sound (record { names_are = names; numbers_are = numbers; edges_are = refl }) refl refl refl c.in-Err.ensures.edges more

@@ -1,0 +1,3 @@
+-- The words of the contracts on numbers, edges and sets by places.
+pub mod Limits
+pub mod calls

@@ -1,8 +1,0 @@
--- The keys of a set are distinct.
-use Rattle.std.proofs.Common.{subst}
-use Rattle.univ_parts.specs.Places.{AreApart}
-use Rattle.univ_parts.proofs.PlaceSets.{apart_of}
-use Rattle.univ_parts.proofs.place_set.Places.len.Goals as goal
-
-pub returns-clause-apart : goal.returns-clause-apart
-returns-clause-apart c = subst AreApart c.self.view_is (apart_of c.self.inside.set.keys c.len.ensures.unique)
