@@ -1,28 +1,34 @@
-use Rattle.std.proofs.Common.{◌≡◌, ◌∙◌, sym, subst, Contains, length, rules}
-use Rattle.cic_rules.specs.Environment.{environment_ids}
-use Rattle.cic_env.specs.Environments.{items}
-use Rattle.cic_env.specs.Declarations.{decl_id}
-use Rattle.cic_env.proofs.Lookups.{placed-by_insert, declared_id, not_declared}
+use Rattle.std.proofs.Common.{◌≡◌, subst, List, [], ◌∷◌, ◌++◌, length, rules}
+use Rattle.cic_names.specs.declared.name.GlobalId.{GlobalId}
+use Rattle.cic_rules.specs.Environment.{declared_ids}
+use Rattle.cic_env.specs.Declarations.{declaration}
+use Rattle.cic_env.specs.Items.{environment}
+use Rattle.cic_env.specs.NewIds.{AreNew, HasTaken}
+use Rattle.cic_env.specs.declared.item.Item.TheVariants.{Declared}
+use Rattle.cic_env.proofs.Newness.{taken-says}
+use Rattle.cic_env.proofs.Cuts.{placed-more}
+use Rattle.cic_env.proofs.DistinctIds.{placed-keys, distinct-more_items}
 use Rattle.cic_env.proofs.environment.Env.push.Goals as goal
-use Rattle.cic_env.proofs.environment.Env.push.Goals.{in-Ok-insert, in-Err-insert+in-Some}
 
-pub invariant_of-self-in-Ok-insert : goal.invariant_of-self-in-Ok-insert
-invariant_of-self-in-Ok-insert c =
-    let named : decl_id c.args.decl ≡ c.in-Ok.id = declared_id _ _ c.id-2.ensures ∙ sym c.in-Ok.ensures in
-    let here : decl_id c.args.decl ≡ c.id.result.now = declared_id _ _ c.id.ensures in
-    let fresh : Contains (environment_ids (items c.args.self.now)) c.in-Ok.id → ⊥ =
-    λ has. not_declared (environment_ids (items c.args.self.now)) c.id.result.now c.declares.result c.declares.ensures c.if-declares.false
-    (subst (Contains (environment_ids (items c.args.self.now))) (sym named ∙ here) has) in
-    let place : c.len-place.result ≡ length c.args.self.now.decls.items = search rules in
-    record { placed = λ id. rw c.in_default-push.ensures.items (placed-by_insert c.args.self.now.decls.items c.args.decl c.in-Ok.id id _ _ _ named place fresh (c.args.self.now.placed id) (c.in-Ok-insert.ensures.updates.0 id)) }
+pub invariant_of-self-in-Ok : goal.invariant_of-self-in-Ok
+invariant_of-self-in-Ok c =
+    let place : c.len.result ≡ length c.args.self.now.kept.items = search rules in
+    let more : c.append.new.kept.items ≡ c.args.self.now.kept.items ++ Declared c.args.decl ∷ [] = search rules in
+    record {
+      placed = placed-more c.args.self.now.kept.items c.append.new.kept.items (Declared c.args.decl) c.len.result c.args.self.now.places.entries c.declare.new.places.entries
+          c.args.self.now.placed place c.in-Ok.ensures.added more;
+      distinct = distinct-more_items c.args.self.now.kept.items c.append.new.kept.items (Declared c.args.decl) more c.args.self.now.distinct
+          (subst (λ (ids : List GlobalId). AreNew ids (declared_ids (declaration c.args.decl)))
+          (placed-keys c.args.self.now.places.entries (environment c.args.self.now.kept.items) c.args.self.now.placed) c.in-Ok.ensures.taken);
+    }
 
-pub returns-clause-duplicate : goal.returns-clause-duplicate
-returns-clause-duplicate c =
-    let here : decl_id c.args.decl ≡ c.id.result.now = declared_id _ _ c.id.ensures in
-    let fresh : Contains (environment_ids (items c.args.self.now)) (decl_id c.args.decl) → ⊥ =
-    λ has. not_declared (environment_ids (items c.args.self.now)) c.id.result.now c.declares.result c.declares.ensures c.if-declares.false
-    (subst (Contains (environment_ids (items c.args.self.now))) here has) in
-    elim c.match-insert.branch [
-      | in-Ok-insert w ↦ rw w.result-is fresh
-      | in-Err-insert+in-Some w ↦ rw w.result-is tt
-    ]
+pub returns-in-Ok-clause-duplicate : goal.returns-in-Ok-clause-duplicate
+returns-in-Ok-clause-duplicate c =
+    let keys = placed-keys c.args.self.now.places.entries (environment c.args.self.now.kept.items) c.args.self.now.placed in
+    subst (λ (ids : List GlobalId). AreNew ids (declared_ids (declaration c.args.decl))) keys c.in-Ok.ensures.taken
+
+pub returns-in-Err-Taken-clause-duplicate : goal.returns-in-Err-Taken-clause-duplicate
+returns-in-Err-Taken-clause-duplicate c =
+    let keys = placed-keys c.args.self.now.places.entries (environment c.args.self.now.kept.items) c.args.self.now.placed in
+    subst (λ (ids : List GlobalId). HasTaken ids (declared_ids (declaration c.args.decl))) keys
+    (taken-says c.in-Err-Taken.field-0 c.in-Err-Taken.field-0-is c.in-Err-Taken.ensures.taken)

@@ -1,0 +1,4 @@
+pub mod Binders
+pub mod Limits
+pub mod Loops
+pub mod Recursion

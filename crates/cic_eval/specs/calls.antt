@@ -1,0 +1,3 @@
+-- Words that state contracts of the parts of evaluation.
+pub mod Sorts
+pub mod Turns

@@ -1,0 +1,4 @@
+pub mod Together
+pub mod Rows
+pub mod Selected
+pub mod FixParts

@@ -1,0 +1,4 @@
+pub mod Lists
+pub mod Optional
+pub mod Fixes
+pub mod calls

@@ -1,0 +1,2 @@
+-- Words that state contracts of counted calls.
+pub mod Counting
