@@ -1,0 +1,16 @@
+pub mod UnmetLaws
+pub mod NumberLaws
+pub mod HeadLaws
+pub mod TableLaws
+pub mod FileLaws
+pub mod Exits
+pub mod OpaqueLaws
+pub mod TableSteps
+pub mod RowLaws
+pub mod LendSteps
+pub mod SpellingLaws
+pub mod FrontLaws
+pub mod PackSteps
+pub mod Examples
+pub mod PlaceSteps
+pub mod OnlyLaws

@@ -1,0 +1,4 @@
+pub mod Numbers
+pub mod Files
+pub mod Defects
+pub mod calls

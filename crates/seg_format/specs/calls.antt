@@ -1,0 +1,4 @@
+pub mod Rows
+pub mod Lending
+pub mod Views
+pub mod Packing
