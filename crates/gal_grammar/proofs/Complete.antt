@@ -1,7 +1,7 @@
 -- What is of the grammar is read so: no token that could go on with a part stands behind it.
 use Rattle.std.proofs.Common.{ℕ, zero, suc, Bool, true, false, cond, List, [], ◌∷◌, ◌++◌, ◌≡◌, ◌≤◌, ◌<◌, ◌+◌, length, Option, Some, None, refl, ap, sym, subst, ◌∙◌, append_assoc, arith, nat_eq, ◌&&◌, ◌||◌, not, codes, true≢false}
 use Rattle.std.specs.Str.{bytes_eq}
-use Rattle.std.proofs.lemmas.Bool.{eqb-true}
+use Rattle.std.proofs.lemmas.Bool.{eqb-true, and_from, or_right, or_left}
 use Rattle.gal_lexer.specs.Marks.{spelling}
 use Rattle.gal_grammar.specs.Tokens.{Token}
 use Rattle.gal_grammar.specs.Tokens as T
@@ -41,14 +41,6 @@ classes name = a_word ∷ spelling M.Blank ∷ []
 
 abbrev pub fits : Test → List ℕ → Bool
 fits x c = member c (classes x)
-
-or_right : (a b : Bool) → b ≡ true → (a || b) ≡ true
-or_right true b h = refl
-or_right false b h = h
-
-or_left : (a b : Bool) → a ≡ true → (a || b) ≡ true
-or_left true b h = refl
-or_left false b h = absurd (cc)
 
 passes_fits : (c : Test) (t : Token) → passes c t ≡ true → fits c (class t) ≡ true
 passes_fits (mark m) (T.mark n) e = or_left (bytes_eq (spelling m) (spelling n)) false e
@@ -184,10 +176,6 @@ and_right : (a b : Bool) → (a && b) ≡ true → b ≡ true
 and_right true b h = h
 and_right false b h = absurd (cc)
 
-and_both : (a b : Bool) → a ≡ true → b ≡ true → (a && b) ≡ true
-and_both true b e h = h
-and_both false b e h = absurd (cc)
-
 not_true : (a : Bool) → not a ≡ true → a ≡ true → ⊥
 not_true true e h = absurd (cc)
 not_true false e h = absurd (cc)
@@ -222,7 +210,7 @@ module _ (F G : List ℕ → Bool) (k : List Want) (covers : (c : List ℕ) → 
       or_elim (any_fits (rules d n) c) (may_be_none n && can_start F (p ++ k) c) ((any_fits (rules d n) c || (may_be_none n && can_start G p c)) ≡ true) h
       (λ e. or_left (any_fits (rules d n) c) (may_be_none n && can_start G p c) e)
       (λ e. or_right (any_fits (rules d n) c) (may_be_none n && can_start G p c)
-      (and_both (may_be_none n) (can_start G p c) (and_left (may_be_none n) (can_start F (p ++ k) c) e) (starts_behind p c (and_right (may_be_none n) (can_start F (p ++ k) c) e))))
+      (and_from (may_be_none n) (can_start G p c) (and_left (may_be_none n) (can_start F (p ++ k) c) e) (starts_behind p c (and_right (may_be_none n) (can_start F (p ++ k) c) e))))
   starts_behind (fix_tail d ∷ p) c h =
       or_elim (bytes_eq (spelling M.With) c) (can_start F (p ++ k) c) ((bytes_eq (spelling M.With) c || can_start G p c) ≡ true) h
       (λ e. or_left (bytes_eq (spelling M.With) c) (can_start G p c) e)
@@ -231,16 +219,16 @@ module _ (F G : List ℕ → Bool) (k : List Want) (covers : (c : List ℕ) → 
   avoids_behind : (cs : List (List ℕ)) (p : List Want) → avoids G cs p ≡ true → avoids F cs (p ++ k) ≡ true
   avoids_behind [] p h = refl
   avoids_behind (c ∷ cs) p h =
-      and_both (not (can_start F (p ++ k) c)) (avoids F cs (p ++ k))
+      and_from (not (can_start F (p ++ k) c)) (avoids F cs (p ++ k))
       (true_not (can_start F (p ++ k) c) (λ e. not_true (can_start G p c) (and_left (not (can_start G p c)) (avoids G cs p) h) (starts_behind p c e)))
       (avoids_behind cs p (and_right (not (can_start G p c)) (avoids G cs p) h))
 
   fine_behind : (p : List Want) → fine G p ≡ true → fine F k ≡ true → fine F (p ++ k) ≡ true
   fine_behind [] h e = e
-  fine_behind (tok x ∷ p) h e = and_both (not (fits x (spelling M.With))) (fine F (p ++ k)) (and_left (not (fits x (spelling M.With))) (fine G p) h) (fine_behind p (and_right (not (fits x (spelling M.With))) (fine G p) h) e)
+  fine_behind (tok x ∷ p) h e = and_from (not (fits x (spelling M.With))) (fine F (p ++ k)) (and_left (not (fits x (spelling M.With))) (fine G p) h) (fine_behind p (and_right (not (fits x (spelling M.With))) (fine G p) h) e)
   fine_behind (act a ∷ p) h e = fine_behind p h e
   fine_behind (nt d n ∷ p) h e =
-      and_both (avoids F (goes_on n) (p ++ k)) (fine F (p ++ k))
+      and_from (avoids F (goes_on n) (p ++ k)) (fine F (p ++ k))
       (avoids_behind (goes_on n) p (and_left (avoids G (goes_on n) p) (fine G p) h))
       (fine_behind p (and_right (avoids G (goes_on n) p) (fine G p) h) e)
   fine_behind (fix_tail d ∷ p) h e = fine_behind p h e
@@ -284,7 +272,7 @@ reads_starts : {late : ℕ} {k : List Want} {vs f : List Val} {t : Token} {s : L
 reads_starts {t = t} (token {c = c} e r) = passes_fits c t e
 reads_starts (action r) = reads_starts r
 reads_starts {t = t} (by_row {d = d} {n = n} {c = c} {p = p} {k = k} e g r) = or_left (any_fits (rules d n) (class t)) (may_be_none n && can_start nothing k (class t)) (pick_fits (rules d n) t (row c p) e)
-reads_starts {t = t} (by_none {d = d} {n = n} {k = k} e r) = or_right (any_fits (rules d n) (class t)) (may_be_none n && can_start nothing k (class t)) (and_both (may_be_none n) (can_start nothing k (class t)) e (reads_starts r))
+reads_starts {t = t} (by_none {d = d} {n = n} {k = k} e r) = or_right (any_fits (rules d n) (class t)) (may_be_none n && can_start nothing k (class t)) (and_from (may_be_none n) (can_start nothing k (class t)) e (reads_starts r))
 reads_starts {t = t} (no_more {k = k} e r) = or_right (bytes_eq (spelling M.With) (class t)) (can_start nothing k (class t)) (reads_starts r)
 reads_starts (one_more {k = k} r) = refl
 

@@ -1,6 +1,7 @@
 -- What the machine reads is of the grammar, every stack can be completed, and where it fails the front cannot go on.
 use Rattle.std.proofs.Common.{ℕ, zero, suc, Bool, true, false, cond, List, [], ◌∷◌, ◌++◌, ◌≡◌, ◌≤◌, ◌<◌, ◌+◌, length, Option, Some, None, refl, ap, sym, subst, ◌∙◌, append_assoc, arith, nat_eq, ◌&&◌, codes}
 use Rattle.std.specs.Str.{bytes_eq}
+use Rattle.std.proofs.lemmas.Bool.{and_from}
 use Rattle.gal_lexer.specs.Marks.{spelling}
 use Rattle.gal_grammar.specs.Tokens.{Token}
 use Rattle.gal_grammar.specs.Tokens as T
@@ -25,13 +26,9 @@ All k = (vs : List Val) → Completes k vs
 same_nat : (n : ℕ) → nat_eq n n ≡ true
 same_nat n = grind arith
 
-both : (a b : Bool) → a ≡ true → b ≡ true → (a && b) ≡ true
-both true b e f = f
-both false b e f = e
-
 same_text : (x : List ℕ) → bytes_eq x x ≡ true
 same_text [] = refl
-same_text (a ∷ x) = both _ _ (same_nat a) (same_text x)
+same_text (a ∷ x) = and_from _ _ (same_nat a) (same_text x)
 
 example : Test → Token
 example (mark m) = T.mark m

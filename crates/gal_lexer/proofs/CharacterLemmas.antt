@@ -8,6 +8,7 @@ use Rattle.std.proofs.lemmas.Grind.{common_steps}
 use Rattle.std.specs.Char.{IsScalar, encode_utf8, is_ascii_alphabetic, is_ascii_alphanumeric}
 use Rattle.std.specs.Str.{all_scalars, encode_utf8_all}
 use Rattle.std.specs.List.{prefix_len, list_all}
+use Rattle.std.proofs.lemmas.Bool.{and_parts, and_from}
 use Rattle.bstr.specs.Utf8.{Decoded, decoded, good}
 use Rattle.bstr.proofs.lemmas.EncodeLemmas.{decoded-encode}
 use Rattle.bstr.proofs.lemmas.SoundLemmas.{SpellsChar, SpellsChar-decoded}
@@ -50,19 +51,9 @@ nothing_starts p = none_starts p [] refl
 pub run_none : (s : List ℕ) → Run 0 s
 run_none s = record { characters = []; scalars = refl; further = refl; spells = refl; width = refl }
 
-both : (a b : Bool) → a ≡ true → b ≡ true → (a && b) ≡ true
-both true true e f = refl
-both true false e f = f
-both false b e f = e
-
-parts : (a b : Bool) → (a && b) ≡ true → (a ≡ true) × (b ≡ true)
-parts true true e = (refl, refl)
-parts true false e = absurd (true≢false (sym e))
-parts false b e = absurd (true≢false (sym e))
-
 scalars_append : (cs ds : List ℕ) → all_scalars cs ≡ true → all_scalars ds ≡ true → all_scalars (cs ++ ds) ≡ true
 scalars_append [] ds e f = f
-scalars_append (c ∷ cs) ds e f = let (g, h) = parts _ _ e in both _ _ g (scalars_append cs ds h f)
+scalars_append (c ∷ cs) ds e f = let (g, h) = and_parts _ _ e in and_from _ _ g (scalars_append cs ds h f)
 
 joined : (s a b : List ℕ) (m n : ℕ) → s ≡ a ++ drop m s → drop m s ≡ b ++ drop n (drop m s) → s ≡ (a ++ b) ++ drop (m + n) s
 joined s a b m n e f = e ∙ ap (λ t. a ++ t) (f ∙ ap (λ t. b ++ t) (drop-drop n m s)) ∙ sym (append_assoc a b (drop (m + n) s))
@@ -74,7 +65,7 @@ pub run_append : (m n : ℕ) (s : List ℕ) → Run m s → Run n (drop m s) →
 run_append m n s a b = record {
   characters = a.characters ++ b.characters;
   scalars = scalars_append a.characters b.characters a.scalars b.scalars;
-  further = list_all-append is_further a.characters b.characters ∙ both _ _ a.further b.further;
+  further = list_all-append is_further a.characters b.characters ∙ and_from _ _ a.further b.further;
   spells = rw (encodes-append a.characters b.characters) (joined s _ _ m n a.spells b.spells);
   width = rw (encodes-append a.characters b.characters) (length_joined _ _ m n a.width b.width);
 }
@@ -86,8 +77,8 @@ append_nil (x ∷ l) = ap (λ t. x ∷ t) (append_nil l)
 pub run_one : (n : ℕ) (s : List ℕ) → StartsWith is_further n s → Run n s
 run_one n s h = record {
   characters = h.character ∷ [];
-  scalars = both _ _ h.scalar refl;
-  further = both _ _ h.passes refl;
+  scalars = and_from _ _ h.scalar refl;
+  further = and_from _ _ h.passes refl;
   spells = rw (append_nil (encode_utf8 h.character)) h.spells;
   width = rw (append_nil (encode_utf8 h.character)) h.width;
 }
@@ -115,8 +106,8 @@ run_ascii (b ∷ s) = run_ascii_cons b s (continues_word b) refl (run_ascii s)
 pub word_of : (n m : ℕ) (s : List ℕ) → StartsWith is_first n s → Run m (drop n s) → StartsWithNo is_further (drop m (drop n s)) → Word (n + m) s
 word_of n m s f r h = record {
   characters = f.character ∷ r.characters;
-  scalars = both _ _ f.scalar r.scalars;
-  word = both _ _ f.passes r.further;
+  scalars = and_from _ _ f.scalar r.scalars;
+  word = and_from _ _ f.passes r.further;
   spells = joined s _ _ n m f.spells r.spells;
   width = length_joined _ _ n m f.width r.width;
   longest = subst (λ t. StartsWithNo is_further t) (drop-drop m n s) h;

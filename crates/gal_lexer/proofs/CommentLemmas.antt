@@ -1,6 +1,6 @@
 -- The end of a comment is found where the definition has it.
 use Rattle.std.proofs.Common.{ℕ, zero, suc, Bool, true, false, cond, List, [], ◌∷◌, ◌++◌, ◌≡◌, ◌≤◌, ◌<◌, ◌+◌, ◌-◌, ◌&&◌, ◌==◌, Option, Some, None, length, drop, refl, ap, sym, subst, ◌∙◌, arith, true≢false, if◌then◌else◌, length-append, append_assoc}
-use Rattle.std.proofs.lemmas.Bool.{eqb-true}
+use Rattle.std.proofs.lemmas.Bool.{eqb-true, and_parts}
 use Rattle.std.proofs.lemmas.Bool.Decides.{nat_tests}
 use Rattle.std.proofs.lemmas.List.{drop_at}
 use Rattle.gal_lexer.specs.Comments.{begins_comment, ends_comment, Inside, closing, nested, further, IsUnclosed}
@@ -26,14 +26,9 @@ opened d b c s e = rw (e, one_more d) refl
 different : (b : ℕ) → (b == 40) ≡ true → (b == 42) ≡ true → ⊥
 different b p q = let x = eqb-true b 40 p in let y = eqb-true b 42 q in absurd (omega arith)
 
-parts : (a b : Bool) → (a && b) ≡ true → (a ≡ true) × (b ≡ true)
-parts true true e = (refl, refl)
-parts true false e = absurd (true≢false (sym e))
-parts false b e = absurd (true≢false (sym e))
-
 no_opening : (b c : ℕ) (s : List ℕ) (o : Bool) → begins_comment (b ∷ c ∷ s) ≡ o → ends_comment (b ∷ c ∷ s) ≡ true → o ≡ false
 no_opening b c s false p e = refl
-no_opening b c s true p e = absurd (different b (parts _ _ p).0 (parts _ _ e).0)
+no_opening b c s true p e = absurd (different b (and_parts _ _ p).0 (and_parts _ _ e).0)
 
 ended : (d b c : ℕ) (s : List ℕ) → ends_comment (b ∷ c ∷ s) ≡ true → comment_end d 0 (b ∷ c ∷ s) ≡ if d == 1 then Some s else comment_end (d - 1) 0 s
 ended d b c s e = let f = no_opening b c s _ refl e in rw (f, e) refl

@@ -1,12 +1,13 @@
 -- A text begins with one piece or has one fault, and not both.
 use Rattle.std.proofs.Common.{ℕ, suc, Bool, true, false, cond, List, [], ◌∷◌, ◌++◌, ◌≡◌, ◌≤◌, ◌<◌, ◌+◌, ◌-◌, ◌==◌, ◌&&◌, ◌||◌, Option, Some, None, length, drop, take, get_or, refl, ap, sym, subst, ◌∙◌, arith, true≢false, length-drop, drop-drop, nat_lt, not, length-append, append_assoc}
-use Rattle.std.proofs.lemmas.Bool.{eqb-true}
+use Rattle.std.proofs.lemmas.Bool.{eqb-true, and_parts}
 use Rattle.std.proofs.lemmas.Bool.Decides.{nat_tests}
 use Rattle.std.proofs.lemmas.List.{take_all}
 use Rattle.std.proofs.lemmas.Str.{char_from_byte, utf8_valid_len-IsValidUpTo, length-encode, len_utf8_bounds}
 use Rattle.std.specs.Char.{IsScalar, encode_utf8}
 use Rattle.std.specs.Str.{IsUtf8, IsValidUpTo, all_scalars, encode_utf8_all}
 use Rattle.std.specs.List.{list_all}
+use Rattle.std.proofs.lemmas.Option.{same_Some}
 use Rattle.cic_names.specs.Identifier.{is_first, is_further, is_word}
 use Rattle.gal_lexer.specs.declared.token.Mark.{Mark}
 use Rattle.gal_lexer.specs.declared.token.Mark.TheVariants as M
@@ -36,11 +37,6 @@ apart {x} {a} {b} e f h = clash (subst (λ y. (a == y) ≡ true) (sym e ∙ f) (
 some_is_none : (m : Mark) → Some m ≡ None → ⊥
 some_is_none m e = cc
 
-parts : (a b : Bool) → (a && b) ≡ true → (a ≡ true) × (b ≡ true)
-parts true true e = (refl, refl)
-parts true false e = absurd (true≢false (sym e))
-parts false b e = absurd (true≢false (sym e))
-
 -- what a first byte begins: a blank, a word, a stop, or something else
 may_begin : ℕ → Bool
 may_begin b = not (nat_lt b 128) || begins_word b
@@ -60,32 +56,29 @@ blank_class (b ∷ s) e = rw e refl
 stop_class : (s : List ℕ) → begins_stop s ≡ true → class_of s ≡ 2
 unfolding class_of class may_begin
 stop_class [] e = absurd (true≢false (sym e))
-stop_class (b ∷ s) e = subst (λ x. class x ≡ 2) (sym (eqb-true b 46 (parts _ _ e).0)) refl
+stop_class (b ∷ s) e = subst (λ x. class x ≡ 2) (sym (eqb-true b 46 (and_parts _ _ e).0)) refl
 
 comment_class : (s : List ℕ) → begins_comment s ≡ true → class_of s ≡ 3
 unfolding class_of class may_begin
 comment_class [] e = absurd (true≢false (sym e))
 comment_class (b ∷ []) e = absurd (true≢false (sym e))
-comment_class (b ∷ c ∷ s) e = subst (λ x. class x ≡ 3) (sym (eqb-true b 40 (parts _ _ e).0)) refl
+comment_class (b ∷ c ∷ s) e = subst (λ x. class x ≡ 3) (sym (eqb-true b 40 (and_parts _ _ e).0)) refl
 
 begins_class : (w s : List ℕ) → 0 < length w → begins_with w s ≡ true → class_of s ≡ class_of w
 unfolding class_of
 begins_class [] s l e = absurd (omega arith)
 begins_class (a ∷ w) [] l e = absurd (true≢false (sym e))
-begins_class (a ∷ w) (b ∷ s) l e = ap class (eqb-true b a (parts _ _ e).0)
-
-some_mark : (x m : Mark) → Some x ≡ Some m → x ≡ m
-some_mark x m e = cc
+begins_class (a ∷ w) (b ∷ s) l e = ap class (eqb-true b a (and_parts _ _ e).0)
 
 found_cons : (p q : Mark → Bool) (x : Mark) (ms : List Mark) (m : Mark) (b : Bool) → p x ≡ b → cond b (Some x) (first_of p ms) ≡ Some m → q x ≡ true →
     (first_of p ms ≡ Some m → (p m ≡ true) × (q m ≡ true)) → (p m ≡ true) × (q m ≡ true)
-found_cons p q x ms m true h e g ih = let s = some_mark x m e in (ap p (sym s) ∙ h, ap q (sym s) ∙ g)
+found_cons p q x ms m true h e g ih = let s = same_Some x m e in (ap p (sym s) ∙ h, ap q (sym s) ∙ g)
 found_cons p q x ms m false h e g ih = ih e
 
 -- what is found passes, and has what all have
 found : (p q : Mark → Bool) (ms : List Mark) (m : Mark) → list_all q ms ≡ true → first_of p ms ≡ Some m → (p m ≡ true) × (q m ≡ true)
 found p q [] m a e = absurd (some_is_none m (sym e))
-found p q (x ∷ ms) m a e = found_cons p q x ms m (p x) refl e (parts _ _ a).0 (found p q ms m (parts _ _ a).1)
+found p q (x ∷ ms) m a e = found_cons p q x ms m (p x) refl e (and_parts _ _ a).0 (found p q ms m (and_parts _ _ a).1)
 
 is_symbol : Mark → Bool
 is_symbol m = nat_lt 0 (length (spelling m)) && (class_of (spelling m) == 3)
@@ -99,7 +92,7 @@ positive n e = grind (arith, nat_tests)
 
 symbol_bounds : (m : Mark) → is_symbol m ≡ true → (0 < length (spelling m)) × (class_of (spelling m) ≡ 3)
 unfolding is_symbol
-symbol_bounds m e = let p = parts _ _ e in (positive (length (spelling m)) p.0, eqb-true _ 3 p.1)
+symbol_bounds m e = let p = and_parts _ _ e in (positive (length (spelling m)) p.0, eqb-true _ 3 p.1)
 
 symbol_class : (s : List ℕ) (m : Mark) → symbol_of s ≡ Some m → class_of s ≡ 3
 symbol_class s m e =
@@ -132,12 +125,12 @@ first_class c r (b ∷ s) f e = class_letter b _ refl
 
 word_class_of : (cs r s : List ℕ) → is_word cs ≡ true → s ≡ encode_utf8_all cs ++ r → class_of s ≡ 1
 word_class_of [] r s w e = absurd (true≢false (sym w))
-word_class_of (c ∷ cs) r s w e = first_class c (encode_utf8_all cs ++ r) s (parts _ _ w).0 (e ∙ append_assoc (encode_utf8 c) (encode_utf8_all cs) r)
+word_class_of (c ∷ cs) r s w e = first_class c (encode_utf8_all cs ++ r) s (and_parts _ _ w).0 (e ∙ append_assoc (encode_utf8 c) (encode_utf8_all cs) r)
 
 word_class : (n : ℕ) (s : List ℕ) → Word n s → class_of s ≡ 1
 word_class n s w = word_class_of w.characters (drop n s) s w.word w.spells
 
--- the parts of a name from the front on, up to where no part follows or a long one does
+-- the both of a name from the front on, up to where no part follows or a long one does
 data Chain : List ℕ → ℕ → Bool → Type 0 where
   done : {s : List ℕ} → NoPart s → Chain s 0 false
   long : {n : ℕ} {s : List ℕ} → Joined n s → longest_name < n → Chain s 0 true
@@ -191,12 +184,12 @@ comment_once s n n' h g l k =
     omega (arith, e, a, b)
 
 mark_same : {m m' : Mark} {n n' : ℕ} → Some m ≡ Some m' → n ≡ length (spelling m) → n' ≡ length (spelling m') → Same (Some (K.Mark m)) (Some (K.Mark m')) n n'
-mark_same {m} {m'} e p q = let s = some_mark m m' e in same (ap (λ x. Some (K.Mark x)) s) (p ∙ ap (λ x. length (spelling x)) s ∙ sym q)
+mark_same {m} {m'} e p q = let s = same_Some m m' e in same (ap (λ x. Some (K.Mark x)) s) (p ∙ ap (λ x. length (spelling x)) s ∙ sym q)
 
 reserved_same : {s : List ℕ} {m m' : Mark} {n n' : ℕ} → Word n s → Word n' s → reserved_of (take n s) ≡ Some m → reserved_of (take n' s) ≡ Some m' → Same (Some (K.Mark m)) (Some (K.Mark m')) n n'
 reserved_same {s} {m} {m'} {n} {n'} v w e f =
     let q = word_once n n' s v w in
-    let r = some_mark m m' (sym e ∙ ap (λ x. reserved_of (take x s)) q ∙ f) in
+    let r = same_Some m m' (sym e ∙ ap (λ x. reserved_of (take x s)) q ∙ f) in
     same (ap (λ x. Some (K.Mark x)) r) q
 
 ended : (s : List ℕ) (n : ℕ) {m : ℕ} → Parts (drop n s) m → NoPart (drop m (drop n s)) → Chain (drop n s) (m + 0) false

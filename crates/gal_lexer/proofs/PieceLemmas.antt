@@ -1,5 +1,7 @@
--- Identifiers, the parts of names, comments and symbols.
+-- Identifiers, the both of names, comments and symbols.
 use Rattle.std.proofs.Common.{ℕ, Bool, true, false, cond, List, [], ◌∷◌, ◌++◌, ◌≡◌, ◌≤◌, ◌<◌, ◌+◌, ◌-◌, ◌==◌, ◌&&◌, Option, Some, None, length, drop, take, refl, ap, sym, subst, ◌∙◌, arith, true≢false, length-drop, drop-drop}
+use Rattle.std.proofs.lemmas.Bool.{and_parts}
+use Rattle.std.proofs.lemmas.Option.{same_Some}
 use Rattle.gal_lexer.specs.declared.token.Mark.{Mark}
 use Rattle.gal_lexer.specs.declared.token.Mark.TheVariants as M
 use Rattle.cic_names.specs.Identifier.{is_first}
@@ -36,26 +38,18 @@ no_part_dot b s r e h n j = h (tail_same b 46 r j.rest (sym e ∙ j.dot)).0
 pub no_part_word : (b : ℕ) (s r : List ℕ) → s ≡ b ∷ r → ((n : ℕ) → Identifier n r → ⊥) → NoPart s
 no_part_word b s r e h n j = h n (subst (λ t. Identifier n t) (sym (tail_same b 46 r j.rest (sym e ∙ j.dot)).1) j.identifier)
 
-some_same : (x m : Mark) → Some x ≡ Some m → x ≡ m
-some_same x m e = cc
-
 passes_cons : (p : Mark → Bool) (x : Mark) (ms : List Mark) (m : Mark) (b : Bool) → p x ≡ b → cond b (Some x) (first_of p ms) ≡ Some m → (first_of p ms ≡ Some m → p m ≡ true) → p m ≡ true
-passes_cons p x ms m true h e ih = ap p (sym (some_same x m e)) ∙ h
+passes_cons p x ms m true h e ih = ap p (sym (same_Some x m e)) ∙ h
 passes_cons p x ms m false h e ih = ih e
 
 first_of_passes : (p : Mark → Bool) (ms : List Mark) (m : Mark) → first_of p ms ≡ Some m → p m ≡ true
 first_of_passes p [] m e = absurd (some_is_none m (sym e))
 first_of_passes p (x ∷ ms) m e = passes_cons p x ms m (p x) refl e (first_of_passes p ms m)
 
-parts : (a b : Bool) → (a && b) ≡ true → (a ≡ true) × (b ≡ true)
-parts true true e = (refl, refl)
-parts true false e = absurd (true≢false (sym e))
-parts false b e = absurd (true≢false (sym e))
-
 begins_length : (w s : List ℕ) → begins_with w s ≡ true → length w ≤ length s
 begins_length [] s e = omega arith
 begins_length (a ∷ w) [] e = absurd (true≢false (sym e))
-begins_length (a ∷ w) (b ∷ s) e = let h = begins_length w s (parts _ _ e).1 in omega arith
+begins_length (a ∷ w) (b ∷ s) e = let h = begins_length w s (and_parts _ _ e).1 in omega arith
 
 some_spelling : (m : Mark) → 0 < length (spelling m)
 some_spelling M.Assign = omega arith

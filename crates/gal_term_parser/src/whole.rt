@@ -1,0 +1,32 @@
+//! One term, the whole of the tokens.
+ghost use Rattle.std.specs.Prelude.{◌≡◌, [], ◌∷◌, IfOk, IfErr};
+ghost use Rattle.gal_grammar.specs.Rules.{a_term};
+ghost use Rattle.gal_grammar.specs.Tokens.{all_spelled};
+ghost use Rattle.gal_grammar.specs.calls.Machine.{run};
+ghost use Rattle.gal_raw.specs.Denotes.{tree};
+ghost use Rattle.gal_term_parser.specs.Left.{IsTerm};
+ghost use Rattle.gal_term_parser.specs.calls.Steps.{FailsWith};
+
+use crate::fault::Fault;
+use crate::reader::Parser;
+use gal_lexer::Token;
+use gal_raw::Raw;
+use std::alloc::Global;
+
+/// The term that all of the tokens are, or the first token where reading it fails.
+#[tactic(auto, using(crate::proofs::Marks::term_read))]
+pub fn parse_term<'a>(
+    alloc: Global,
+    source: &'a [u8],
+    tokens: &'a [Token],
+) -> Result<Box<Raw<'a>>, Fault>
+    ensures term { IfOk result (λ t. IsTerm (all_spelled source.now tokens.now) (tree t.value)) }
+    ensures fault { IfErr result (λ fault. FailsWith fault (run (all_spelled source.now tokens.now) (a_term 0 ∷ []) [])) }
+{
+    let mut parser = Parser::new(alloc, source, tokens);
+    let found = parser.term(1, false)?;
+    match parser.split() {
+        None => Ok(found),
+        Some(_) => Err(parser.stuck()),
+    }
+}
