@@ -4,7 +4,7 @@ use Rattle.std.proofs.Math.Seq.{take-add, take-append-add}
 use Rattle.std.proofs.lemmas.List.{take-append-le, length-take-le}
 use borrow.Rule.Slice.PartMut.{put_mid, post_of}
 use Rattle.cic_io.specs.Files.{Files, bytes_of}
-use Rattle.cic_io.specs.Reading.{WholeTold, ReadTold, Takes}
+use Rattle.cic_io.specs.Reading.{WholeTold, ReadTold, RisesBy}
 
 -- a list is cut at the length of a part as that part was cut
 take-length_take : (n : ℕ) (xs : List ℕ) → take (length (take n xs)) xs ≡ take n xs
@@ -40,5 +40,5 @@ WholeTold-more (Some fs) name a k room n xs ys a_within n_within front next =
     cc
 
 -- what two reads take, one after the other
-pub Takes-more : (a b c m n : ℕ) → Takes a b m → Takes b c n → Takes a c (m + n)
-Takes-more a b c m n first second = omega arith
+pub RisesBy-more : (a b c m n : ℕ) → RisesBy a b m → RisesBy b c n → RisesBy a c (m + n)
+RisesBy-more a b c m n first second = omega arith

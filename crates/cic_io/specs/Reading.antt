@@ -17,10 +17,10 @@ abbrev pub WholeTold : Option Files → List ℕ → ℕ → List ℕ → Type 0
 WholeTold told name count bytes = ReadTold told name 0 count bytes
 
 -- the bytes taken rose by `count`, but never past the largest number of their type
-abbrev pub Takes : ℕ → ℕ → ℕ → Type 0
-Takes old new count = new ≡ max old (min (old + count) count_end)
+abbrev pub RisesBy : ℕ → ℕ → ℕ → Type 0
+RisesBy old new count = new ≡ max old (min (old + count) count_end)
 
 -- a read that answers a number takes so many bytes, and any other takes none
-abbrev pub ReadTakes : Result ℕ FolderFault → ℕ → ℕ → Type 0
-ReadTakes (Ok count) old new = Takes old new count
-ReadTakes (Err _) old new = new ≡ old
+abbrev pub CountsRead : Result ℕ FolderFault → ℕ → ℕ → Type 0
+CountsRead (Ok count) old new = RisesBy old new count
+CountsRead (Err _) old new = new ≡ old

@@ -1,5 +1,5 @@
 ghost use Rattle.cic_io.specs.Files.{Rose};
-ghost use Rattle.cic_io.specs.Reading.{Takes};
+ghost use Rattle.cic_io.specs.Reading.{RisesBy};
 
 /// Counts one fault more.
 pub(crate) fn count_fault(faults: &mut u64)
@@ -10,7 +10,7 @@ pub(crate) fn count_fault(faults: &mut u64)
 
 /// Counts the bytes that a read gave.
 pub(crate) fn count_taken(taken: &mut u64, count: usize)
-    ensures { Takes taken.old taken.new count }
+    ensures { RisesBy taken.old taken.new count }
 {
     *taken = taken.saturating_add(count as u64);
 }

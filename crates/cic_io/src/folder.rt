@@ -31,7 +31,7 @@ pub trait Folder {
     ghost use Rattle.std.specs.Prelude.{ℕ, Option, ◌≡◌, ◌≤◌, IfOk, length, take};
     ghost use Rattle.cic_io.specs.Files.{Files};
     ghost use Rattle.cic_io.specs.Faults.{FailedRose, OthersQuiet};
-    ghost use Rattle.cic_io.specs.Reading.{SizeTold, ReadTold, ReadTakes};
+    ghost use Rattle.cic_io.specs.Reading.{SizeTold, ReadTold, CountsRead};
 
     /// The files, where the folder tells them.
     ghost files: { Self → Option Files };
@@ -62,5 +62,5 @@ pub trait Folder {
         ensures failed { FailedRose result (read_faults self.old) (read_faults self.new) }
         ensures quiet { OthersQuiet result (read_faults self.old) (read_faults self.new) }
         ensures files { files self.new ≡ files self.old }
-        ensures taken { ReadTakes result (taken self.old) (taken self.new) };
+        ensures taken { CountsRead result (taken self.old) (taken self.new) };
 }

@@ -42,7 +42,7 @@ impl MemFolder {
 impl Folder for MemFolder {
     ghost use Rattle.std.specs.Prelude.{◌≡◌, ◌≤◌, ◌↔◌, Some, IfOk, IsErrOf, length, take};
     ghost use Rattle.cic_io.specs.Faults.{FailedRose, OthersQuiet};
-    ghost use Rattle.cic_io.specs.Reading.{SizeTold, ReadTold, ReadTakes};
+    ghost use Rattle.cic_io.specs.Reading.{SizeTold, ReadTold, CountsRead};
     ghost use Rattle.cic_io.specs.Calls.{NextFails, OneMore};
     ghost use Rattle.cic_io.specs.Memory.{folder_calls};
 
@@ -79,7 +79,7 @@ impl Folder for MemFolder {
         ensures failed { FailedRose result (⟦<MemFolder as Folder>⟧.read_faults self.old) (⟦<MemFolder as Folder>⟧.read_faults self.new) }
         ensures quiet { OthersQuiet result (⟦<MemFolder as Folder>⟧.read_faults self.old) (⟦<MemFolder as Folder>⟧.read_faults self.new) }
         ensures files { ⟦<MemFolder as Folder>⟧.files self.new ≡ ⟦<MemFolder as Folder>⟧.files self.old }
-        ensures taken { ReadTakes result (⟦<MemFolder as Folder>⟧.taken self.old) (⟦<MemFolder as Folder>⟧.taken self.new) }
+        ensures taken { CountsRead result (⟦<MemFolder as Folder>⟧.taken self.old) (⟦<MemFolder as Folder>⟧.taken self.new) }
         ensures fails { IsErrOf result FolderFault.Failed ↔ NextFails (folder_calls self.old) }
         ensures counted { OneMore (folder_calls self.old) (folder_calls self.new) }
     {

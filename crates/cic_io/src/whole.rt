@@ -1,6 +1,6 @@
 ghost use Rattle.std.specs.Prelude.{◌≡◌, ◌≤◌, IfOk, length, take};
 ghost use Rattle.cic_io.specs.Faults.{FailedRose, OthersQuiet};
-ghost use Rattle.cic_io.specs.Reading.{WholeTold, Takes};
+ghost use Rattle.cic_io.specs.Reading.{WholeTold, RisesBy};
 
 use crate::folder::{Folder, FolderFault};
 use std::alloc::Global;
@@ -20,7 +20,7 @@ pub fn read_whole<F: Folder>(
     ensures failed { FailedRose result (F.read_faults folder.old) (F.read_faults folder.new) }
     ensures quiet { OthersQuiet result (F.read_faults folder.old) (F.read_faults folder.new) }
     ensures files { F.files folder.new ≡ F.files folder.old }
-    ensures taken { IfOk result (λ bytes. Takes (F.taken folder.old) (F.taken folder.new) (length bytes.items)) }
+    ensures taken { IfOk result (λ bytes. RisesBy (F.taken folder.old) (F.taken folder.new) (length bytes.items)) }
 {
     let mut bytes = vec![in alloc; 0u8; count]?;
     let read = fill(folder, name, bytes.as_mut_slice())?;
@@ -35,7 +35,7 @@ fn fill<F: Folder>(folder: &mut F, name: &str, into: &mut [u8]) -> Result<usize,
     ensures failed { FailedRose result (F.read_faults folder.old) (F.read_faults folder.new) }
     ensures quiet { OthersQuiet result (F.read_faults folder.old) (F.read_faults folder.new) }
     ensures files { F.files folder.new ≡ F.files folder.old }
-    ensures taken { IfOk result (λ read. Takes (F.taken folder.old) (F.taken folder.new) read) }
+    ensures taken { IfOk result (λ read. RisesBy (F.taken folder.old) (F.taken folder.new) read) }
 {
     let mut read = 0;
     while read < into.len() {

@@ -9,9 +9,9 @@ use Rattle.cic_counted.specs.Outcome.{Budget, Outcome, Counted, done, stops, fol
 use Rattle.cic_counted.specs.Evaluation.{whnf_at}
 use Rattle.cic_counted.specs.Inference.{Calls, as_sort, product_sort, infer_step, type_of_sort, sort_step, calls_at, calls_from}
 use Rattle.cic_counted.specs.Checking.{rejects, all_visible, answer_of, check_declaration}
-use Rattle.cic_kernel.specs.Counting.{left}
-use Rattle.cic_kernel.specs.Language.{TermOfLanguage, TypeOfLanguage, IsOfLanguage, EnvironmentOfLanguage, AreOfLanguage, CauseOfLanguage}
-use Rattle.cic_kernel.specs.State.{assumptions}
+use Rattle.cic_kernel.specs.Accepting.{left}
+use Rattle.cic_kernel.specs.Language.{TermOfLanguage, IsOfLanguage, EnvironmentOfLanguage, CauseOfLanguage}
+use Rattle.cic_kernel.specs.calls.State.{TypeOfLanguage, AreOfLanguage, assumptions}
 use Rattle.cic_kernel.proofs.Evaluation.{whnf_is_itself_at, whnf_at_the_last}
 use Rattle.cic_kernel.proofs.TypesOfTerms.{CallsKeep, calls_keep, whnf_keeps, product_sort_is}
 

@@ -9,8 +9,9 @@ use Rattle.cic_counted.specs.Inference.{calls_from}
 use Rattle.cic_counted.specs.Checking.{Found, accepts, rejects, all_visible, answer_of, check_declaration}
 use Rattle.cic_env.specs.declared.verdict.Found as F
 use Rattle.cic_env.specs.declared.verdict.Verdict.{Verdict}
-use Rattle.cic_kernel.specs.Verdicts.{Judges}
-use Rattle.cic_kernel.specs.Counting.{left, StopsFor, Rejects}
+use Rattle.cic_work.specs.Verdicts.{Judges}
+use Rattle.cic_kernel.specs.Accepting.{left}
+use Rattle.cic_kernel.specs.calls.Counting.{StopsFor, Rejects}
 use Rattle.cic_kernel.specs.Language.{IsOfLanguage, TermOfLanguage, EnvironmentOfLanguage, IsUniverse}
 use Rattle.cic_kernel.proofs.TypesOfTerms.{calls_keep_from}
 

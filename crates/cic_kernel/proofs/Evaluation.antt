@@ -6,9 +6,9 @@ use Rattle.cic_names.specs.declared.constraint.Constraint.{Constraint}
 use Rattle.cic_rules.specs.Environment.{Environment}
 use Rattle.cic_counted.specs.Outcome.{Budget, Counted, done, stops, deep, follow, ◌>>=◌, give, stop, spent, tick}
 use Rattle.cic_counted.specs.Evaluation.{answer, variable_turn, constant_turn, turn_of, goes_on, loop_of, whnf_at, whnf_from}
-use Rattle.cic_kernel.specs.Language.{TypeOfLanguage, EnvironmentOfLanguage}
-use Rattle.cic_kernel.specs.State.{assumptions}
-use Rattle.cic_kernel.specs.Counting.{entered}
+use Rattle.cic_kernel.specs.calls.State.{TypeOfLanguage, assumptions}
+use Rattle.cic_kernel.specs.Language.{EnvironmentOfLanguage}
+use Rattle.cic_kernel.specs.calls.Counting.{entered}
 use Rattle.cic_kernel.proofs.Depths.{by_depth}
 use Rattle.cic_kernel.proofs.Lookups.{constants_have_no_bodies, variables_have_no_bodies}
 

@@ -7,8 +7,8 @@ use Rattle.cic_terms.specs.Tree.{Tree}
 use Rattle.cic_names.specs.declared.name.GlobalId.{GlobalId}
 use Rattle.cic_names.specs.Sameness.{same_id}
 use Rattle.cic_rules.specs.Environment.{Environment, Declaration, axiom_of, declared, Meaning, constant, meaning, or_else, element, constant_type, constant_type_in, transparent_body, transparent_body_in, type_at, body_at}
-use Rattle.cic_kernel.specs.Language.{TermOfLanguage, IsOfLanguage, EnvironmentOfLanguage, AreOfLanguage}
-use Rattle.cic_kernel.specs.State.{assumptions}
+use Rattle.cic_kernel.specs.Language.{TermOfLanguage, IsOfLanguage, EnvironmentOfLanguage}
+use Rattle.cic_kernel.specs.calls.State.{AreOfLanguage, assumptions}
 
 -- A constant with a type of the language and no body, or nothing.
 abbrev pub MeaningOfLanguage : Option Meaning → Type 0

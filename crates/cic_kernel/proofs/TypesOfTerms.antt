@@ -10,8 +10,8 @@ use Rattle.cic_counted.specs.Outcome.{Budget, Counted, done, stops, ◌>>=◌, g
 use Rattle.cic_counted.specs.Evaluation.{whnf_at}
 use Rattle.cic_counted.specs.Inference.{Calls, as_sort, product_sort, infer_step, type_of_sort, sort_step, calls_at, calls_from}
 use Rattle.cic_counted.proofs.Taken.{follow_done, done_value, done_rest, fitting_done}
-use Rattle.cic_kernel.specs.Language.{TermOfLanguage, TypeOfLanguage, EnvironmentOfLanguage, AreOfLanguage, IsUniverse, above_set}
-use Rattle.cic_kernel.specs.State.{assumptions}
+use Rattle.cic_kernel.specs.Language.{TermOfLanguage, EnvironmentOfLanguage, IsUniverse, above_set}
+use Rattle.cic_kernel.specs.calls.State.{TypeOfLanguage, AreOfLanguage, assumptions}
 use Rattle.cic_kernel.proofs.Lookups.{constant_types_of_language, variable_types, element_of_language}
 use Rattle.cic_kernel.proofs.Evaluation.{whnf_is_itself_at, whnf_at_the_last}
 

@@ -1,5 +1,5 @@
 -- The language of axioms: the types of its axioms are built of Prop, variables, constants and products.
-use Rattle.std.specs.Prelude.{◌≡◌, ◌⊎◌, List, [], ◌∷◌}
+use Rattle.std.specs.Prelude.{◌≡◌, ◌⊎◌, [], ◌∷◌}
 use Rattle.cic_terms.specs.Tree.{TreeSort, prop, Tree, rel, sort, prod, const}
 use Rattle.cic_names.specs.declared.level.Level.TheVariants.{Set}
 use Rattle.cic_rules.specs.Environment.{Declaration, axiom_of, Item, declared, Environment}
@@ -26,11 +26,6 @@ abbrev pub EnvironmentOfLanguage : Environment → Type 0
 EnvironmentOfLanguage [] = Unit {0}
 EnvironmentOfLanguage (item ∷ E) = ItemOfLanguage item × EnvironmentOfLanguage E
 
--- The types of the variables of a context, each a term of the language.
-abbrev pub AreOfLanguage : List Tree → Type 0
-AreOfLanguage [] = Unit {0}
-AreOfLanguage (t ∷ ts) = TermOfLanguage t × AreOfLanguage ts
-
 -- The universe above Set.
 abbrev pub above_set : TreeSort
 above_set = next_level Set
@@ -38,11 +33,6 @@ above_set = next_level Set
 -- The sorts of the types of the language.
 abbrev pub IsUniverse : TreeSort → Type 0
 IsUniverse s = (s ≡ prop) ⊎ (s ≡ above_set)
-
--- The types of the terms of the language: such terms again, and the universe above Set.
-abbrev pub TypeOfLanguage : Tree → Type 0
-TypeOfLanguage (sort s) = IsUniverse s
-TypeOfLanguage t = TermOfLanguage t
 
 -- Why an axiom of the language may be refused: an id or a variable is not there, or a term of the language is no sort.
 abbrev pub CauseOfLanguage : Cause → Type 0

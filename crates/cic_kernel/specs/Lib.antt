@@ -1,5 +1,3 @@
 pub mod Language
-pub mod Verdicts
-pub mod Counting
-pub mod State
 pub mod Accepting
+pub mod calls

@@ -10,7 +10,7 @@ ghost use Rattle.cic_counted.specs.Checking.{Found, accepts, rejects, check_decl
 ghost use Rattle.cic_counted.specs.Inference.{calls_from};
 ghost use Rattle.cic_counted.specs.Outcome.{Budget, Cause, done, refused};
 ghost use Rattle.cic_kernel.specs.Language.{IsOfLanguage, EnvironmentOfLanguage, IsUniverse, CauseOfLanguage};
-ghost use Rattle.cic_kernel.specs.Counting.{left};
+ghost use Rattle.cic_kernel.specs.Accepting.{left};
 
 /// An accepted declaration of the language needs no constraint.
 pub fn no_constraint_is_found()

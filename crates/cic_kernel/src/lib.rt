@@ -8,9 +8,10 @@ ghost use Rattle.cic_rules.specs.Environment.{axiom_of, declared, environment_id
 ghost use Rattle.cic_rules.specs.Formed.{Distinct, Formed};
 ghost use Rattle.cic_rules.specs.Numbering.{Numbering, MeetsAll};
 ghost use Rattle.cic_counted.specs.Checking.{check_declaration};
-ghost use Rattle.cic_env.specs.Declarations.{declaration, decl_id};
+ghost use Rattle.cic_env.specs.Declarations.{declaration};
+ghost use Rattle.cic_names.specs.declared.name.GlobalId.{GlobalId};
 ghost use Rattle.cic_env.specs.Environments.{items};
-ghost use Rattle.cic_kernel.specs.Verdicts.{Judges};
+ghost use Rattle.cic_work.specs.Verdicts.{Judges};
 ghost use Rattle.cic_kernel.specs.Accepting.{IfDone};
 ghost use Rattle.cic_kernel.specs.Language.{IsOfLanguage, EnvironmentOfLanguage};
 
@@ -26,12 +27,14 @@ use cic_names::Constraints;
 use cic_terms::Term;
 use std::alloc::Global;
 
-/// The type that a declaration gives its id.
+/// The type that an axiom gives its id.
 fn declared_type(decl: &Decl) -> &Term
-    ensures { declaration decl.now ≡ axiom_of (decl_id decl.now) (tree result.now) }
+    requires { IsOfLanguage (declaration decl.now) }
+    ensures { (id : GlobalId) × (declaration decl.now ≡ axiom_of id (tree result.now)) }
 {
     match decl {
         Decl::Axiom { ty, .. } => ty,
+        Decl::Transparent { .. } | Decl::Opaque { .. } | Decl::Inductive(_) => unreachable!(),
     }
 }
 
@@ -55,6 +58,3 @@ pub fn check_decl(alloc: Global, env: &mut Env, decl: &Decl, budget: u32) -> Ver
         Err(stop) => stop.verdict(),
     }
 }
-
-#[cfg(test)]
-mod tests;

@@ -7,15 +7,15 @@ ghost use Rattle.cic_terms.specs.Tree.{rel, const};
 ghost use Rattle.cic_counted.specs.Evaluation.{whnf_from};
 ghost use Rattle.cic_counted.specs.Inference.{as_sort};
 ghost use Rattle.cic_counted.specs.Outcome.{fitting, unbound, global};
-ghost use Rattle.cic_kernel.specs.Counting.{Counts, left, entered, StopsWith, no_value, shared_tree, universe_sort};
-ghost use Rattle.cic_kernel.specs.Language.{TypeOfLanguage};
-ghost use Rattle.cic_kernel.specs.State.{IsReady, Stays, inference_in, environment_of, context_of};
+ghost use Rattle.cic_kernel.specs.calls.Counting.{Counts, entered, StopsWith, no_value, shared_tree, universe_sort};
+ghost use Rattle.cic_kernel.specs.Accepting.{left};
+ghost use Rattle.cic_kernel.specs.calls.State.{TypeOfLanguage, IsReady, SpendsOnlyBudget, inference_in, environment_of, context_of};
 
 use crate::stopping::Stop;
 use crate::universe::{Universe, universe_of};
-use cic_env::{Decl, Entry, Env};
+use cic_env::Env;
 use cic_names::GlobalId;
-use cic_terms::{Term, TermFault, copy, lift_shared};
+use cic_terms::{Term, TermFault, lift_shared};
 use memory::NoMemory;
 use std::alloc::Global;
 use std::rc::Rc;
@@ -39,7 +39,7 @@ pub struct Check<'e> {
 fn shared_copy(alloc: Global, t: &Term) -> Result<Rc<Term>, NoMemory>
     ensures { IfOk result (λ r. tree r.value ≡ tree t.now) }
 {
-    Ok(Rc::new(alloc, copy(t)?)?)
+    Ok(Rc::new(alloc, t.clone()?)?)
 }
 
 /// A copy of an id in a refusal.
@@ -47,7 +47,7 @@ fn shared_copy(alloc: Global, t: &Term) -> Result<Rc<Term>, NoMemory>
 fn unknown_id(id: &GlobalId) -> Stop
     ensures { StopsWith result (unbound (global id.now)) }
 {
-    match id.copy() {
+    match id.clone() {
         Ok(id) => Stop::UnknownId(id),
         Err(_) => Stop::NoMemory,
     }
@@ -75,7 +75,7 @@ impl<'e> Check<'e> {
     pub fn enter(&mut self) -> Result<(), Stop>
         requires { self.old.depth ≤ 2001 }
         ensures answer { Counts no_value result self.new.rest (entered self.old.depth (left self.old.rest)) }
-        ensures stays { OnOk result (Stays self.old self.new) }
+        ensures stays { OnOk result (SpendsOnlyBudget self.old self.new) }
         ensures within { OnOk result (self.old.depth ≤ 2000) }
     {
         if self.depth > MOST_CALLS {
@@ -93,7 +93,7 @@ impl<'e> Check<'e> {
         requires ready { IsReady self.old }
         requires kind { TypeOfLanguage (tree ty.value) }
         ensures answer { Counts shared_tree result self.new.rest (whnf_from self.old.depth (environment_of self.old) (context_of self.old) (tree ty.value) (left self.old.rest)) }
-        ensures stays { OnOk result (Stays self.old self.new) }
+        ensures stays { OnOk result (SpendsOnlyBudget self.old self.new) }
         ensures same { IfOk result (λ v. v ≡ ty) }
     {
         self.enter()?;
@@ -147,8 +147,8 @@ impl<'e> Check<'e> {
     pub fn type_of_constant(&self, id: &GlobalId) -> Result<Rc<Term>, Stop>
         ensures { Counts shared_tree result self.now.rest (inference_in self.now (const id.now) (left self.now.rest)) }
     {
-        match self.env.get(id) {
-            Some(Entry::Decl(Decl::Axiom { ty, .. })) => Ok(shared_copy(self.alloc, ty)?),
+        match self.env.constant_type(id) {
+            Some(ty) => Ok(shared_copy(self.alloc, ty)?),
             None => Err(unknown_id(id)),
         }
     }

@@ -3,12 +3,12 @@
 ghost use Rattle.std.specs.Prelude.{Some};
 ghost use Rattle.cic_terms.specs.Denotes.{tree};
 ghost use Rattle.cic_counted.specs.Outcome.{refused, not_sort};
-ghost use Rattle.cic_kernel.specs.Counting.{Rejects};
+ghost use Rattle.cic_kernel.specs.calls.Counting.{Rejects};
 
 use cic_env::{Cause, Found, Missing, Verdict};
 use cic_names::GlobalId;
-use cic_terms::{Term, TermFault, copy};
-use memory::{NoMemory, OutOfMemory};
+use cic_terms::{Term, TermFault};
+use memory::OutOfMemory;
 use std::rc::Rc;
 
 /// Why a counted call has no value.
@@ -40,14 +40,14 @@ impl<E: OutOfMemory> From<E> for Stop {
 fn not_sort(depth: u32, form: &Term) -> Verdict<Found>
     ensures { Rejects result (Some (refused (not_sort depth (tree form.now)))) }
 {
-    match copy(form) {
+    match form.clone() {
         Ok(form) => Verdict::Refused(Cause::NotSort { depth, form }),
-        Err(NoMemory) => Verdict::NoMemory,
+        Err(_) => Verdict::NoMemory,
     }
 }
 
 impl Stop {
-    ghost use Rattle.cic_kernel.specs.Counting.{reason};
+    ghost use Rattle.cic_kernel.specs.calls.Counting.{reason};
 
     /// The verdict on a declaration whose check ends so.
     #[inline(never)]

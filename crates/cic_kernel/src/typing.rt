@@ -4,9 +4,10 @@ ghost use Rattle.std.specs.Prelude.{OnOk, ◌≤◌, ◌+◌};
 ghost use Rattle.cic_terms.specs.Denotes.{tree};
 ghost use Rattle.cic_terms.specs.Tree.{prod};
 ghost use Rattle.cic_counted.specs.Inference.{calls_from};
-ghost use Rattle.cic_kernel.specs.Counting.{Counts, left, shared_tree, universe_sort};
+ghost use Rattle.cic_kernel.specs.calls.Counting.{Counts, shared_tree, universe_sort};
+ghost use Rattle.cic_kernel.specs.Accepting.{left};
 ghost use Rattle.cic_kernel.specs.Language.{TermOfLanguage};
-ghost use Rattle.cic_kernel.specs.State.{IsReady, Stays, inference_in, environment_of, context_of};
+ghost use Rattle.cic_kernel.specs.calls.State.{IsReady, SpendsOnlyBudget, inference_in, environment_of, context_of};
 
 use crate::state::Check;
 use crate::stopping::Stop;
@@ -22,7 +23,7 @@ impl Check<'_> {
         requires ready { IsReady self.old }
         requires term { TermOfLanguage (tree t.now) }
         ensures answer { Counts universe_sort result self.new.rest ((calls_from self.old.depth (environment_of self.old)).sort_of (context_of self.old) (tree t.now) (left self.old.rest)) }
-        ensures stays { OnOk result (Stays self.old self.new) }
+        ensures stays { OnOk result (SpendsOnlyBudget self.old self.new) }
     {
         self.enter()?;
         self.depth += 1;
@@ -39,7 +40,7 @@ impl Check<'_> {
         requires ready { IsReady self.old }
         requires term { TermOfLanguage (tree t.now) }
         ensures answer { Counts shared_tree result self.new.rest ((calls_from self.old.depth (environment_of self.old)).infer (context_of self.old) (tree t.now) (left self.old.rest)) }
-        ensures stays { OnOk result (Stays self.old self.new) }
+        ensures stays { OnOk result (SpendsOnlyBudget self.old self.new) }
     {
         self.enter()?;
         match t {
@@ -61,7 +62,7 @@ impl Check<'_> {
         requires domain { TermOfLanguage (tree domain.now.value) }
         requires codomain { TermOfLanguage (tree codomain.now) }
         ensures answer { Counts shared_tree result self.new.rest (inference_in self.old (prod (tree domain.now.value) (tree codomain.now)) (left self.old.rest)) }
-        ensures stays { OnOk result (Stays self.old self.new) }
+        ensures stays { OnOk result (SpendsOnlyBudget self.old self.new) }
     {
         self.depth += 1;
         let _sort = self.sort_of(domain)?;

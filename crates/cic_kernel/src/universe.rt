@@ -4,8 +4,9 @@ ghost use Rattle.std.specs.Prelude.{◌≡◌, option_map, IfOk};
 ghost use Rattle.cic_terms.specs.Denotes.{tree, tree_sort};
 ghost use Rattle.cic_terms.specs.Tree.{sort};
 ghost use Rattle.cic_counted.specs.Checking.{ending_sort};
-ghost use Rattle.cic_kernel.specs.Counting.{universe_sort};
-ghost use Rattle.cic_kernel.specs.Language.{TypeOfLanguage, above_set};
+ghost use Rattle.cic_kernel.specs.calls.Counting.{universe_sort};
+ghost use Rattle.cic_kernel.specs.calls.State.{TypeOfLanguage};
+ghost use Rattle.cic_kernel.specs.Language.{above_set};
 
 use cic_names::{Atom, Expr, Level, Sort};
 use cic_terms::Term;

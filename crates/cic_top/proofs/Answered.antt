@@ -7,22 +7,18 @@ use Rattle.cic_rules.specs.Environment.{Environment}
 use Rattle.cic_top.specs.CommandLine.{CommandLine, FirstNotUnderstood, source_name}
 use Rattle.cic_top.specs.Refusals as R
 use Rattle.cic_top.specs.Compilation.{Compiled, Compiles, environment, refusal, is_not_yet}
-use Rattle.cic_top.specs.Compiling.{CompilesTo}
-use Rattle.cic_top.specs.Sources.{Fits, FoundUnder}
+use Rattle.cic_top.specs.calls.Compiling.{CompilesTo}
+use Rattle.cic_top.specs.calls.Sources.{DescribesContent, FoundUnder}
 use Rattle.cic_top.specs.declared.source.Source.{Source}
 use Rattle.gal_parser.specs.Grammar.{longest_source, too_long}
 use Rattle.cic_env.specs.Environments.{items}
 use Rattle.cic_env.specs.declared.environment.Env.{Env}
 use Rattle.cic_top.specs.Command.{Contents, RefusesSource, is_absent, is_refused, AcceptsSource, Refuses, Accepts, IsAccepted, Answers, is_misread, refuses, accepts}
-use Rattle.cic_top.specs.Replies.{RepliesTo, replies_refusal, replies_environment, Says}
-use Rattle.cic_top.specs.Replying.{RepliesRefusal, RepliesList, RepliesWord, RepliesStop, StopHasLine}
-use Rattle.cic_top.specs.declared.compiling.Stop.{Stop}
-use Rattle.cic_top.specs.declared.compiling.Stop.TheVariants as S
+use Rattle.cic_top.specs.calls.Replying.{RepliesTo, replies_refusal, replies_environment, RepliesRefusal, RepliesList, RepliesWord}
+use Rattle.cic_top.specs.Runs.{Says, UnlessFault}
 use Rattle.cic_top.specs.declared.source.Source.TheVariants.{Absent}
-use Rattle.cic_top.specs.Runs.{UnlessFault}
-use Rattle.cic_top.specs.Views.{answer_of, refusal_of}
+use Rattle.cic_top.specs.Views.{answer_of}
 use Rattle.cic_top.specs.declared.running.Reply.{Reply}
-use Rattle.cic_top.proofs.Compilations.{refused-has_line}
 use Rattle.cic_top.proofs.Unambiguous.{one_library, no_command_line-misread, one_word, one_compilation}
 
 -- A refusal, and a list of axioms, as the reply on a library.
@@ -141,23 +137,18 @@ pub if_ok : {A B : Type 0} (r : Result A B) {P Q : A → Type 0} → ((x : A) �
 if_ok (Ok x) f h = f x h
 if_ok (Err e) f h = tt
 
-pub stop-has_line : (library source : List ℕ) (stop : Stop) → CompilesTo library source (Err stop) → StopHasLine stop
-stop-has_line library source (S.Refused r) h = refused-has_line h
-stop-has_line library source S.NoMemory h = tt
-
 -- The replies on a text, by what it is compiled to.
 pub list-replies : (library source : List ℕ) (env : Env) (reply : Reply) → CompilesTo library source (Ok env) → RepliesList (items env) reply →
     RepliesTo library (Some source) (answer_of reply.answer) (string_bytes reply.output)
 list-replies library source env reply compiled given = reply-list library (Some source) (items env) reply (record { source = source; is = refl; compiles = compiled }) given
 
-pub stop-replies : (library source : List ℕ) (stop : Stop) (reply : Reply) → CompilesTo library source (Err stop) → RepliesStop stop reply →
+pub refusal-replies : (library source : List ℕ) (r : R.Refusal) (reply : Reply) → Compiles library source (refusal r) → RepliesRefusal r reply →
     RepliesTo library (Some source) (answer_of reply.answer) (string_bytes reply.output)
-stop-replies library source (S.Refused r) reply compiled given = reply-refusal library (Some source) (refusal_of r) reply (is_refused refl compiled) given
-stop-replies library source S.NoMemory reply compiled given = absurd given
+refusal-replies library source r reply compiled given = reply-refusal library (Some source) r reply (is_refused refl compiled) given
 
 -- The replies on what was found as a source.
 pub absent-replies : (library name : List ℕ) (reply : Reply) → name ≡ source_name library → RepliesRefusal (R.no_file name) reply →
-    (bytes : Option (List ℕ)) → Fits Absent bytes → RepliesTo library bytes (answer_of reply.answer) (string_bytes reply.output)
+    (bytes : Option (List ℕ)) → DescribesContent Absent bytes → RepliesTo library bytes (answer_of reply.answer) (string_bytes reply.output)
 absent-replies library name reply named given bytes fits =
     reply-refusal library bytes (R.no_file (source_name library)) reply (is_absent fits) (subst (λ n. RepliesRefusal (R.no_file n) reply) named given)
 
@@ -179,10 +170,10 @@ misread-says words (Some fs) k reply misread given = record { content = file_at 
 
 pub source-says : (words : List (List ℕ)) (told : Option Files) (library name file : List ℕ) (source : Source) (reply : Reply) → CommandLine words library →
     name ≡ source_name library → file ≡ name → FoundUnder told file source →
-    ((bytes : Option (List ℕ)) → Fits source bytes → RepliesTo library bytes (answer_of reply.answer) (string_bytes reply.output)) →
+    ((bytes : Option (List ℕ)) → DescribesContent source bytes → RepliesTo library bytes (answer_of reply.answer) (string_bytes reply.output)) →
     Says words told (answer_of reply.answer) (string_bytes reply.output)
 source-says words told library name file source reply line named filed found given = record {
   content = found.content;
   of_folder = found.of_folder;
-  answers = library-answers line (given (found.content (source_name library)) (subst (λ n. Fits source (found.content n)) (filed ∙ named) found.fits));
+  answers = library-answers line (given (found.content (source_name library)) (subst (λ n. DescribesContent source (found.content n)) (filed ∙ named) found.describes));
 }

@@ -19,7 +19,7 @@ use Rattle.gal_print.specs.Printing.{HasText, prop_has_text, variable_has_text, 
 use Rattle.gal_print.proofs.Texts.{text_of}
 use Rattle.cic_top.specs.Refusals.{Refusal}
 use Rattle.cic_top.specs.Texts.{not_sort_text, unbound_id_text, unbound_variable_text, no_item, one_axiom, not_yet_line, duplicate_line, unknown_line, ill_line, spent_line, deep_line}
-use Rattle.cic_top.specs.Lines.{HasCauseText, HasAxiomLines, HasLine}
+use Rattle.cic_top.specs.calls.Lines.{HasCauseText, HasAxiomLines, HasLine}
 use Rattle.cic_top.specs.Compilation.{Adds, adds_axiom, IsRefused, duplicate_name, unknown_name, not_accepted, check_refusal, default_budget, Compiled, environment, refusal, Runs, all_run, one_adds, one_is_refused, Compiles, is_not_yet, is_read}
 
 -- What a written term stands for is of the language.

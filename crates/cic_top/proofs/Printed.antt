@@ -1,12 +1,11 @@
 -- The lines of the list of axioms, as the program makes them.
-use Rattle.std.proofs.Common.{ℕ, List, [], ◌∷◌, ◌++◌, ◌≡◌, refl, sym, ap, ◌∙◌, map, true, codes, Result, Ok, Err, IfOk, OnOk, false, length, drop, get_or, ◌<◌, ◌+◌, decimal, append_assoc, subst, rules}
+use Rattle.std.proofs.Common.{ℕ, List, [], ◌∷◌, ◌++◌, ◌≡◌, refl, sym, ap, ◌∙◌, map, true, codes, length, drop, get_or, ◌<◌, ◌+◌, decimal, append_assoc, subst, rules}
 use Rattle.std.specs.Ordering.{nat_cmp, is_eq, match_ordering}
 use Rattle.std.specs.Cmp.Lexicographic.{slice_cmp}
 use Rattle.std.specs.declared.cmp.Ordering.{Ordering}
 use Rattle.std.specs.declared.cmp.Ordering.TheVariants.{Less, Equal, Greater}
 use Rattle.std.specs.declared.string.String.{String}
 use Rattle.std.specs.declared.alloc.Global.{Global}
-use Rattle.std.specs.Result.{is_err}
 use Rattle.std.specs.String.{string_cmp, string_bytes}
 use Rattle.std.specs.Str.{bytes_eq}
 use Rattle.std.specs.BTreeMap.{insert_entry}
@@ -15,17 +14,19 @@ use Rattle.std.proofs.lemmas.Map.Text.{is_eq-slice_cmp}
 use Rattle.std.proofs.lemmas.Slice.Eq.{bytes_eq-Decides}
 use Rattle.cic_terms.specs.Tree.{Tree}
 use Rattle.cic_names.specs.declared.name.GlobalId.{GlobalId}
-use Rattle.cic_rules.specs.Environment.{Environment, Declaration, declared, axiom_of}
-use Rattle.cic_env.specs.Declarations.{declaration, item}
-use Rattle.cic_env.specs.declared.declaration.Decl.{Decl}
+use Rattle.cic_names.specs.Texts.{id_text}
+use Rattle.cic_rules.specs.Environment as R
+use Rattle.cic_rules.specs.Environment.{Environment, declared, axiom_of}
+use Rattle.cic_env.specs.Items.{as_item}
+use Rattle.cic_env.specs.declared.item.Item.{Item}
 use Rattle.cic_counted.specs.Outcome.{Cause, Missing, unbound, global, local, not_sort}
-use Rattle.gal_print.specs.Printing.{HasText, Prints, id_text}
+use Rattle.gal_print.specs.Printing.{HasText, Prints}
 use Rattle.gal_print.specs.Appending.{Appends}
 use Rattle.gal_print.proofs.OneText.{one_text}
 use Rattle.gal_print.proofs.Texts.{printed_has_text}
 use Rattle.cic_top.specs.Refusals.{Refusal, no_file, not_yet, duplicate, unknown, ill, spent, deep}
 use Rattle.cic_top.specs.Texts.{IsCauseText, not_sort_text, unbound_id_text, unbound_variable_text, AxiomLine, AxiomLines, no_item, one_axiom, put_line, insert_line, insert_lines, axiom_list, IsAxiomList, error_line, IsRefusalLine, no_file_line, not_yet_line, duplicate_line, unknown_line, ill_line, spent_line, deep_line}
-use Rattle.cic_top.specs.Lines.{HasCauseText, line_of, lines_of, AreSortedAxioms}
+use Rattle.cic_top.specs.calls.Lines.{IsAxiom, HasCauseText, line_of, lines_of, AreSortedAxioms}
 
 -- What the lines of an environment say of its first axiom.
 pub record FirstAxiom (id : GlobalId) (type : Tree) (E : Environment) (lines : List AxiomLine) : Type 0 where
@@ -127,34 +128,32 @@ sorted_at_end E left sorted none so_far =
       order = ap (insert_lines sorted) (sym no) ∙ so_far.order;
     }
 
--- What holds of a text that was made holds of it where it is handed on.
-pub made_text : {A E F : Type 0} (made : Result A E) (handed : Result A F) (P Q : A → Type 0) →
-    IfOk handed (λ x. made ≡ Ok x) →
-    IfOk made P →
-    ((x : A) → P x → Q x) →
-    IfOk handed Q
-made_text made (Ok x) P Q is p more = more x (subst (λ t. IfOk t P) is p)
-made_text made (Err e) P Q is p more = tt
+-- The first of the items that are left is an axiom.
+axiom_first : {item : R.Item} {E : Environment} {lines : List AxiomLine} → AxiomLines (item ∷ E) lines → IsAxiom item
+axiom_first (one_axiom p others) = tt
 
-pub made_from : {A E : Type 0} (made : Result A E) (x : A) (P : A → Type 0) → made ≡ Ok x → IfOk made P → P x
-made_from made x P is p = subst (λ t. IfOk t P) is p
+next_left : (kept : List Item) (i : ℕ) (item : Item) → i < length kept → item ≡ get_or kept i item →
+    map as_item (drop i kept) ≡ as_item item ∷ map as_item (drop (i + 1) kept)
+next_left kept i item below is =
+    ap (map as_item) (drop_more kept i item below ∙ ap (λ (k : Item). k ∷ drop (i + 1) kept) (sym is))
 
--- What holds where a call did not fail holds where a test says that it did not.
-pub on_no_fault : {A E : Type 0} (r : Result A E) (P : Type 0) → false ≡ is_err r → OnOk r P → P
-on_no_fault (Ok x) P is p = p
-on_no_fault (Err e) P is p = cc
+pub left_axiom : (E : Environment) (sorted : List AxiomLine) (kept : List Item) (i : ℕ) (item : Item) →
+    i < length kept →
+    item ≡ get_or kept i item →
+    SortedSoFar E (map as_item (drop i kept)) sorted →
+    IsAxiom (as_item item)
+left_axiom E sorted kept i item below is so_far =
+    axiom_first (subst (λ (F : Environment). AxiomLines F so_far.rest) (next_left kept i item below is) so_far.each_left)
 
--- The first of the declarations that are left is an axiom.
-pub first_left : (E : Environment) (sorted : List AxiomLine) (decls : List Decl) (i : ℕ) (decl : Decl) (id : GlobalId) (type : Tree) →
-    i < length decls →
-    decl ≡ get_or decls i decl →
-    declaration decl ≡ axiom_of id type →
-    SortedSoFar E (map item (drop i decls)) sorted →
-    SortedSoFar E (declared (axiom_of id type) ∷ map item (drop (i + 1) decls)) sorted
-first_left E sorted decls i decl id type below is parts so_far =
-    let first : drop i decls ≡ decl ∷ drop (i + 1) decls = drop_more decls i decl below ∙ ap (λ (d : Decl). d ∷ drop (i + 1) decls) (sym is) in
-    let left : map item (drop i decls) ≡ declared (axiom_of id type) ∷ map item (drop (i + 1) decls) =
-    ap (map item) first ∙ ap (λ (d : Declaration). declared d ∷ map item (drop (i + 1) decls)) parts in
+pub first_left : (E : Environment) (sorted : List AxiomLine) (kept : List Item) (i : ℕ) (item : Item) (id : GlobalId) (type : Tree) →
+    i < length kept →
+    item ≡ get_or kept i item →
+    as_item item ≡ declared (axiom_of id type) →
+    SortedSoFar E (map as_item (drop i kept)) sorted →
+    SortedSoFar E (declared (axiom_of id type) ∷ map as_item (drop (i + 1) kept)) sorted
+first_left E sorted kept i item id type below is parts so_far =
+    let left : map as_item (drop i kept) ≡ declared (axiom_of id type) ∷ map as_item (drop (i + 1) kept) =
+    next_left kept i item below is ∙ ap (λ (d : R.Item). d ∷ map as_item (drop (i + 1) kept)) parts in
     subst (λ (F : Environment). SortedSoFar E F sorted) left so_far
 
 pub first_has_text : (E left : Environment) (sorted : List AxiomLine) (id : GlobalId) (type : Tree) →
@@ -211,11 +210,10 @@ not_sort_appended cause depth form old printed new is h e =
     cause_at cause (not_sort depth form) old new (h.added ++ codes " is not a sort.") is (not_sort_text h.is_such)
     (e ∙ ap (λ (z : List ℕ). z ++ codes " is not a sort.") h.text ∙ append_assoc old h.added (codes " is not a sort."))
 
-pub unbound_id_appended : (what : Missing) (id : GlobalId) (old named new : List ℕ) → what ≡ global id → named ≡ old ++ id_text id → new ≡ named ++ codes " is unbound." →
+pub unbound_id_appended : (what : Missing) (id : GlobalId) (old new : List ℕ) → what ≡ global id → new ≡ old ++ (id_text id ++ codes " is unbound.") →
     Appends (IsCauseText (unbound what)) old new
-unbound_id_appended what id old named new is f e =
-    cause_at (unbound what) (unbound (global id)) old new (id_text id ++ codes " is unbound.") (ap unbound is) unbound_id_text
-    (e ∙ ap (λ (z : List ℕ). z ++ codes " is unbound.") f ∙ append_assoc old (id_text id) (codes " is unbound."))
+unbound_id_appended what id old new is e =
+    cause_at (unbound what) (unbound (global id)) old new (id_text id ++ codes " is unbound.") (ap unbound is) unbound_id_text e
 
 pub unbound_variable_appended : (what : Missing) (k : ℕ) (old start numbered new : List ℕ) → what ≡ local k → start ≡ old ++ codes "variable " → numbered ≡ start ++ decimal k → new ≡ numbered ++ codes " is unbound." →
     Appends (IsCauseText (unbound what)) old new
@@ -235,16 +233,16 @@ pub unknown_text : (r : Refusal) (name text : List ℕ) → r ≡ unknown name �
 unknown_text r name text is e = line_as r (unknown name) text _ is (simp append_assoc e) unknown_line
 
 -- The line of an ill-formed declaration, as its parts are put behind one another.
-pub ill_text : (id : GlobalId) (cause : Cause) (start named colon caused line : List ℕ) →
-    start ≡ codes "Error: In " → named ≡ start ++ id_text id → colon ≡ named ++ codes ": " → Appends (IsCauseText cause) colon caused → line ≡ caused ++ codes "\n" →
+pub ill_text : (id : GlobalId) (cause : Cause) (start caused line : List ℕ) →
+    start ≡ codes "Error: In " ++ (id_text id ++ codes ": ") → Appends (IsCauseText cause) start caused → line ≡ caused ++ codes "\n" →
     IsRefusalLine (ill id cause) line
-ill_text id cause start named colon caused line e f g h k =
+ill_text id cause start caused line e h k =
     line_as (ill id cause) (ill id cause) line _ refl
-    (k ∙ ap (λ (z : List ℕ). z ++ codes "\n") (h.text ∙ ap (λ (z : List ℕ). z ++ h.added) (g ∙ ap (λ (z : List ℕ). z ++ codes ": ") (f ∙ ap (λ (z : List ℕ). z ++ id_text id) e)))
+    (k ∙ ap (λ (z : List ℕ). z ++ codes "\n") (h.text ∙ ap (λ (z : List ℕ). z ++ h.added) e)
     ∙ ill_bytes (id_text id) h.added)
     (ill_line h.is_such)
   where
-    ill_bytes : (id cause : List ℕ) → codes "Error: In " ++ id ++ codes ": " ++ cause ++ codes "\n" ≡ error_line (codes "In " ++ id ++ codes ": " ++ cause)
+    ill_bytes : (id cause : List ℕ) → codes "Error: In " ++ (id ++ codes ": ") ++ cause ++ codes "\n" ≡ error_line (codes "In " ++ id ++ codes ": " ++ cause)
     ill_bytes id cause = simp append_assoc
 
 spent_bytes : (id : List ℕ) (budget : ℕ) (text : List ℕ) →
@@ -252,26 +250,18 @@ spent_bytes : (id : List ℕ) (budget : ℕ) (text : List ℕ) →
     text ≡ error_line (codes "In " ++ id ++ codes ": the budget of " ++ decimal budget ++ codes " steps is spent.")
 spent_bytes id budget text e = simp append_assoc e
 
-pub spent_text : (r : Refusal) (id : GlobalId) (budget : ℕ) (printed text : List ℕ) → r ≡ spent id budget →
-    printed ≡ id_text id →
-    text ≡ codes "Error: In " ++ (printed ++ (codes ": the budget of " ++ (decimal budget ++ codes " steps is spent.\n"))) →
+pub spent_text : (r : Refusal) (id : GlobalId) (budget : ℕ) (text : List ℕ) → r ≡ spent id budget →
+    text ≡ codes "Error: In " ++ (id_text id ++ (codes ": the budget of " ++ (decimal budget ++ codes " steps is spent.\n"))) →
     IsRefusalLine r text
-spent_text r id budget printed text is named e =
-    line_as r (spent id budget) text _ is
-    (spent_bytes printed budget text e
-    ∙ ap (λ (b : List ℕ). error_line (codes "In " ++ b ++ codes ": the budget of " ++ decimal budget ++ codes " steps is spent.")) named)
-    spent_line
+spent_text r id budget text is e =
+    line_as r (spent id budget) text _ is (spent_bytes (id_text id) budget text e) spent_line
 
 deep_bytes : (id text : List ℕ) →
     text ≡ codes "Error: In " ++ (id ++ codes ": too deep.\n") →
     text ≡ error_line (codes "In " ++ id ++ codes ": too deep.")
 deep_bytes id text e = simp append_assoc e
 
-pub deep_text : (r : Refusal) (id : GlobalId) (printed text : List ℕ) → r ≡ deep id →
-    printed ≡ id_text id →
-    text ≡ codes "Error: In " ++ (printed ++ codes ": too deep.\n") →
+pub deep_text : (r : Refusal) (id : GlobalId) (text : List ℕ) → r ≡ deep id →
+    text ≡ codes "Error: In " ++ (id_text id ++ codes ": too deep.\n") →
     IsRefusalLine r text
-deep_text r id printed text is named e =
-    line_as r (deep id) text _ is
-    (deep_bytes printed text e ∙ ap (λ (b : List ℕ). error_line (codes "In " ++ b ++ codes ": too deep.")) named)
-    deep_line
+deep_text r id text is e = line_as r (deep id) text _ is (deep_bytes (id_text id) text e) deep_line

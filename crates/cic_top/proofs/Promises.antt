@@ -6,10 +6,8 @@ use Rattle.cic_io.specs.Sending.{SentAll}
 use Rattle.cic_rules.specs.Environment.{Environment}
 use Rattle.cic_top.specs.CommandLine.{FirstNotUnderstood}
 use Rattle.cic_top.specs.Refusals as R
-use Rattle.cic_top.specs.Command.{Contents, Refuses, Accepts, IsAccepted, Answers, is_misread, refuses, accepts}
-use Rattle.cic_top.specs.Sources.{AreContentsOf}
-use Rattle.cic_top.specs.Replies.{Says}
-use Rattle.cic_top.specs.Runs.{UnlessFault, IsOrFault, SaysAndSends, AnswersAsStatedUnlessFaults}
+use Rattle.cic_top.specs.Command.{Contents, Refuses, Accepts, IsAccepted, Answers, is_misread, refuses, accepts, AreContentsOf}
+use Rattle.cic_top.specs.Runs.{Says, UnlessFault, IsOrFault, SaysAndSends, AnswersAsStatedUnlessFaults}
 use Rattle.cic_top.specs.Formed.{AcceptsFormed}
 use Rattle.cic_top.proofs.Compilations.{compiled-is_formed}
 use Rattle.cic_top.proofs.Answered.{no_read_fault, no_sink_fault, no_memory_fault, unless_fault, answered-word, answered-refusal, answered-pass, word-is_answered, refusal-is_answered, pass-is_answered}

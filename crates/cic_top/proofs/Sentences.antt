@@ -12,7 +12,7 @@ use Rattle.gal_parser.specs.declared.command.Command.{Command}
 use Rattle.gal_elab.specs.Scoping.{id_of, Declares, StandsFor}
 use Rattle.cic_top.specs.Refusals as R
 use Rattle.cic_top.specs.Compilation.{Adds, adds_axiom, IsRefused, duplicate_name, unknown_name, not_accepted, Compiled, Runs, all_run, one_adds, one_is_refused, environment, refusal, Compiles, is_not_yet, is_read}
-use Rattle.cic_top.specs.Compiling.{StopsFor, TypeOrUnknown, DeclaresOrRefuses, AddsOrRefuses, RunsOrRefuses, CompilesTo}
+use Rattle.cic_top.specs.calls.Compiling.{StopsFor, TypeOrUnknown, DeclaresOrRefuses, AddsOrRefuses, RunsOrRefuses, CompilesTo}
 use Rattle.cic_top.specs.Views.{refusal_of}
 use Rattle.cic_top.specs.declared.compiling.Stop.{Stop}
 use Rattle.cic_top.specs.declared.compiling.Stop.TheVariants.{Refused, NoMemory}
@@ -92,8 +92,6 @@ read_refused library source E E' commands given (Refused r) read same none runs 
 read_refused library source E E' commands given NoMemory read same none runs = tt
 
 -- A source that is not understood is refused.
-pub not_read : (library source : List ℕ) (place : ℕ) (stop : Stop) → NotYetAt source place →
-    StopsFor stop (R.not_yet (source_name library) place) → CompilesTo library source (Err stop)
-not_read library source place (Refused r) at e =
-    subst (λ reason. Compiles library source (refusal reason)) (sym e) (is_not_yet at)
-not_read library source place NoMemory at e = tt
+pub not_read : (library source : List ℕ) (place : ℕ) (r : R.Refusal) → NotYetAt source place → r ≡ R.not_yet (source_name library) place →
+    Compiles library source (refusal r)
+not_read library source place r at e = subst (λ reason. Compiles library source (refusal reason)) (sym e) (is_not_yet at)

@@ -1,6 +1,7 @@
 -- What a command line answers and prints, over the contents of files: `content name` is the bytes of
 -- the file of that name, where there is one.
-use Rattle.std.specs.Prelude.{ℕ, ◌≡◌, List, Option, Some, None}
+use Rattle.std.specs.Prelude.{ℕ, ◌≡◌, List, Option, Some, None, IfSome}
+use Rattle.cic_io.specs.Files.{Files, file_at}
 use Rattle.cic_rules.specs.Environment.{Environment}
 use Rattle.cic_top.specs.CommandLine.{CommandLine, FirstNotUnderstood, source_name}
 use Rattle.cic_top.specs.Refusals.{Refusal, no_file, Answer, passed, not_understood, refused}
@@ -10,6 +11,10 @@ use Rattle.cic_top.specs.Texts.{IsAxiomList, IsRefusalLine, word_line}
 -- The contents of files.
 abbrev pub Contents : Type 0
 Contents = List ℕ → Option (List ℕ)
+
+-- Contents are those of the folder, where it tells its files.
+abbrev pub AreContentsOf : Contents → Option Files → Type 0
+AreContentsOf content told = IfSome told (λ fs. content ≡ file_at fs)
 
 -- The source of a library is refused: there is none, or it is refused as it is compiled.
 pub data RefusesSource (library : List ℕ) : Option (List ℕ) → Refusal → Type 0 where

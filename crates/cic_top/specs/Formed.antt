@@ -5,8 +5,7 @@ use Rattle.cic_io.specs.Sending.{SentAll}
 use Rattle.cic_rules.specs.Environment.{Environment}
 use Rattle.cic_rules.specs.Formed.{Formed}
 use Rattle.cic_rules.specs.Numbering.{Numbering, IsNumbering}
-use Rattle.cic_top.specs.Command.{Contents, Accepts}
-use Rattle.cic_top.specs.Sources.{AreContentsOf}
+use Rattle.cic_top.specs.Command.{Contents, AreContentsOf, Accepts}
 use Rattle.cic_top.specs.Texts.{IsAxiomList}
 
 -- The command accepts an environment, over some contents, those of the folder where it tells its files.

@@ -1,14 +1,9 @@
 pub mod CommandLine
 pub mod Refusals
+pub mod Views
 pub mod Compilation
 pub mod Texts
 pub mod Command
-pub mod Lines
-pub mod Replies
-pub mod Views
-pub mod Replying
-pub mod Compiling
-pub mod Sources
-pub mod Reading
 pub mod Runs
 pub mod Formed
+pub mod calls

@@ -3,8 +3,7 @@ use Rattle.std.specs.Prelude.{ℕ, List, Option, Some, ◌≡◌, ◌++◌, ◌�
 use Rattle.cic_io.specs.Files.{Files, file_at}
 use Rattle.cic_io.specs.Sending.{SentAll, SentPart}
 use Rattle.cic_top.specs.Refusals.{Answer, passed, not_understood, refused, read_fault, sink_fault, no_memory}
-use Rattle.cic_top.specs.Command.{Answers}
-use Rattle.cic_top.specs.Replies.{Says}
+use Rattle.cic_top.specs.Command.{Contents, AreContentsOf, Answers}
 
 -- The fact holds where the answer is one of the command, and no fault.
 abbrev pub UnlessFault : Answer → Type 0 → Type 0
@@ -18,6 +17,13 @@ UnlessFault no_memory P = Unit {0}
 -- The answer is this one, or a fault: the folder or the sink failed, or there was no memory.
 abbrev pub IsOrFault : Answer → Answer → Type 0
 IsOrFault answer this = (answer ≡ this) ⊎ (answer ≡ read_fault) ⊎ (answer ≡ sink_fault) ⊎ (answer ≡ no_memory)
+
+-- The command has this answer and this output over some contents, those of the folder where it tells
+-- its files.
+pub record Says (words : List (List ℕ)) (told : Option Files) (answer : Answer) (output : List ℕ) : Type 0 where
+  pub content : Contents
+  pub of_folder : AreContentsOf content told
+  pub answers : Answers words content answer output
 
 -- The command has this answer with an output that was sent.
 pub record SaysAndSends (words : List (List ℕ)) (told : Option Files) (answer : Answer) (old new : Option (List ℕ)) : Type 0 where

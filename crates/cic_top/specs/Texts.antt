@@ -6,9 +6,10 @@ use Rattle.std.specs.declared.cmp.Ordering.{Ordering}
 use Rattle.std.specs.declared.cmp.Ordering.TheVariants.{Less, Equal, Greater}
 use Rattle.cic_terms.specs.Tree.{Tree}
 use Rattle.cic_names.specs.declared.name.GlobalId.{GlobalId}
+use Rattle.cic_names.specs.Texts.{id_text}
 use Rattle.cic_rules.specs.Environment.{Environment, declared, axiom_of}
 use Rattle.cic_counted.specs.Outcome.{Cause, unbound, global, local, not_sort}
-use Rattle.gal_print.specs.Printing.{id_text, Prints}
+use Rattle.gal_print.specs.Printing.{Prints}
 use Rattle.cic_top.specs.Refusals.{Refusal, no_file, not_yet, duplicate, unknown, ill, spent, deep}
 
 -- A line of the list of axioms: a printed id and a printed type.

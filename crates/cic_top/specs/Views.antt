@@ -1,5 +1,5 @@
 -- What the program's refusals and answers stand for.
-use Rattle.cic_kernel.specs.Verdicts.{cause_of}
+use Rattle.cic_work.specs.Verdicts.{cause_of}
 use Rattle.cic_top.specs.Refusals as R
 use Rattle.cic_top.specs.declared.answer.Refusal.{Refusal}
 use Rattle.cic_top.specs.declared.answer.Refusal.TheVariants.{NoFile, NotYet, Duplicate, Unknown, Ill, Spent, Deep}

@@ -1,8 +1,9 @@
 ghost use Rattle.std.specs.Prelude.{◌≡◌, ◌++◌, ◌≤◌, codes, map, string_bytes, IfOk, IfErr, MatchOption, MatchResult, ⊤, List, ℕ};
 ghost use Rattle.cic_top.specs.CommandLine.{IsName, CommandLine, FirstNotUnderstood, source_name};
-ghost use Rattle.cic_top.specs.Reading.{IsLibraryOf, IsUnderstood};
+ghost use Rattle.cic_top.specs.calls.Reading.{IsLibraryOf, IsUnderstood};
 
-use cic_names::{Name, NameFault, NoMemory};
+use cic_names::{Name, NameFault};
+use memory::{NoMemory, OutOfMemory};
 use std::alloc::Global;
 use std::marker::Model;
 
@@ -36,6 +37,17 @@ pub(crate) enum Misread {
     NoMemory,
 }
 
+impl<E: OutOfMemory> From<E> for Misread {
+    ghost use Rattle.cic_top.specs.declared.command_line.Misread.TheVariants as M;
+    ghost use Rattle.std.specs.Prelude.{◌≡◌};
+
+    ghost from_gives = { λ _ misread. misread ≡ M.NoMemory };
+
+    fn from(_fault: E) -> Misread {
+        Misread::NoMemory
+    }
+}
+
 /// The library whose source is named.
 fn library_of(alloc: Global, file: &str) -> Result<Option<Name>, NoMemory>
     ensures { IfOk result (λ found. IsLibraryOf found file.now) }
@@ -64,9 +76,7 @@ pub(crate) fn command(alloc: Global, words: &Words) -> Result<Name, Misread>
     let Some(second) = items.get(1) else {
         return Err(Misread::Word(2));
     };
-    let Ok(library) = library_of(alloc, second.as_str()) else {
-        return Err(Misread::NoMemory);
-    };
+    let library = library_of(alloc, second.as_str())?;
     match library {
         None => Err(Misread::Word(2)),
         Some(_) if items.len() > 2 => Err(Misread::Word(3)),

@@ -1,5 +1,8 @@
 ghost use Rattle.std.specs.Prelude.{◌≡◌, ◌++◌, ◌∷◌, [], codes, IfOk, OnOk};
-ghost use Rattle.cic_env.specs.Declarations.{declaration, decl_id, item};
+ghost use Rattle.cic_env.specs.Declarations.{declaration};
+ghost use Rattle.cic_env.specs.Items.{item};
+ghost use Rattle.cic_env.specs.NewIds.{AreNew};
+ghost use Rattle.cic_rules.specs.Environment.{environment_ids, declared_ids};
 ghost use Rattle.cic_env.specs.Environments.{items};
 ghost use Rattle.cic_terms.specs.Denotes.{tree};
 ghost use Rattle.gal_parser.specs.Grammar.{axiom_sentence};
@@ -8,16 +11,18 @@ ghost use Rattle.cic_top.specs.CommandLine.{IsName, source_name};
 ghost use Rattle.cic_kernel.specs.Language.{TermOfLanguage, IsOfLanguage, EnvironmentOfLanguage};
 ghost use Rattle.cic_top.specs.Refusals.{duplicate, not_yet};
 ghost use Rattle.gal_elab.specs.Scoping.{Declares, id_of};
-ghost use Rattle.cic_top.specs.Compiling.{StopsFor, TypeOrUnknown, PassesOrRefuses, DeclaresOrRefuses, AddsOrRefuses, RunsOrRefuses, CompilesTo};
+ghost use Rattle.cic_top.specs.Views.{refusal_of};
+ghost use Rattle.cic_top.specs.calls.Compiling.{StopsFor, TypeOrUnknown, PassesOrRefuses, DeclaresOrRefuses, AddsOrRefuses, RunsOrRefuses, CompilesTo};
 
 use crate::answer::Refusal;
 use cic_env::{Decl, Env, PushFault, Verdict};
 use cic_io::{FileName, FileNameFault};
 use cic_kernel::check_decl;
-use cic_names::{GlobalId, Name, NoMemory};
+use cic_names::{GlobalId, Name};
 use cic_terms::Term;
-use gal_elab::{ElabFault, elab_type};
+use gal_elab::{ElabFault, elab_type, id_of};
 use gal_parser::{Command, ParseFault, Raw, parse};
+use memory::{NoMemory, OutOfMemory};
 use std::alloc::Global;
 
 /// The steps that the check of a declaration may take.
@@ -30,13 +35,13 @@ pub(crate) enum Stop {
     NoMemory,
 }
 
-impl From<NoMemory> for Stop {
+impl<E: OutOfMemory> From<E> for Stop {
     ghost use Rattle.cic_top.specs.declared.compiling.Stop.TheVariants as S;
     ghost use Rattle.std.specs.Prelude.{◌≡◌};
 
-    ghost from_gives = { λ _ e. e ≡ S.NoMemory };
+    ghost from_gives = { λ _ stop. stop ≡ S.NoMemory };
 
-    fn from(_fault: NoMemory) -> Stop {
+    fn from(_fault: E) -> Stop {
         Stop::NoMemory
     }
 }
@@ -52,22 +57,18 @@ fn type_of(alloc: Global, library: &Name, env: &Env, raw: &Raw) -> Result<Term, 
     }
 }
 
-/// The id of a name of the library.
-fn id_of(library: &Name, name: &Name) -> Result<GlobalId, NoMemory>
-    ensures { IfOk result (λ id. id ≡ id_of library.now name.now) }
+/// The same id, which shares its names.
+fn shared_id(id: &GlobalId) -> Result<GlobalId, NoMemory>
+    ensures { IfOk result (λ r. r ≡ id.now) }
 {
-    let lib = library.copy()?;
-    match name.copy() {
-        Ok(name) => Ok(GlobalId { lib, name }),
-        Err(fault) => Err(fault),
-    }
+    Ok(id.clone()?)
 }
 
 /// The refusal of a name that is declared already.
 fn duplicate(name: &Name) -> Stop
     ensures { StopsFor result (duplicate name.now) }
 {
-    match name.copy() {
+    match name.clone() {
         Ok(name) => Stop::Refused(Refusal::Duplicate { name }),
         Err(_) => Stop::NoMemory,
     }
@@ -92,9 +93,9 @@ fn judge(alloc: Global, env: &mut Env, decl: &Decl, id: GlobalId) -> Result<(), 
     }
 }
 
-/// Adds a declaration whose id is new.
+/// Adds a declaration whose ids are new.
 fn add(env: &mut Env, decl: Decl) -> Result<(), NoMemory>
-    requires { ¬ Declares (items env.old) (decl_id decl) }
+    requires { AreNew (environment_ids (items env.old)) (declared_ids (declaration decl)) }
     ensures { OnOk result (items env.new ≡ items env.old ++ item decl ∷ []) }
 {
     match env.push(decl) {
@@ -111,14 +112,12 @@ fn declare(alloc: Global, env: &mut Env, id: GlobalId, ty: Term) -> Result<(), S
     requires environment { EnvironmentOfLanguage (items env.old) }
     ensures { DeclaresOrRefuses (items env.old) id (tree ty) result (items env.new) }
 {
-    let decl = Decl::Axiom { id: id.copy()?, ty };
-    match judge(alloc, env, &decl, id) {
-        Ok(()) => match add(env, decl) {
-            Ok(()) => Ok(()),
-            Err(_) => Err(Stop::NoMemory),
-        },
-        Err(stop) => Err(stop),
-    }
+    let decl = Decl::Axiom {
+        id: shared_id(&id)?,
+        ty,
+    };
+    judge(alloc, env, &decl, id)?;
+    Ok(add(env, decl)?)
 }
 
 /// The name and the type of an axiom, which is the one sentence of this language.
@@ -147,9 +146,7 @@ fn run_sentence(alloc: Global, library: &Name, env: &mut Env, command: &Command)
 pub(crate) fn source_file(alloc: Global, library: &Name) -> Result<FileName, NoMemory>
     ensures { IfOk result (λ name. name ≡ source_name library.now) }
 {
-    let Ok(text) = format!(in alloc; "{}.v", library.text()) else {
-        return Err(NoMemory);
-    };
+    let text = format!(in alloc; "{}.v", library.text())?;
     match FileName::new(alloc, text.as_bytes()) {
         Ok(name) => Ok(name),
         Err(FileNameFault::BadName) => unreachable!(),
@@ -158,13 +155,11 @@ pub(crate) fn source_file(alloc: Global, library: &Name) -> Result<FileName, NoM
 }
 
 /// The refusal of a source that is not understood from a place on.
-fn not_yet(alloc: Global, library: &Name, place: u32) -> Stop
-    ensures { StopsFor result (not_yet (source_name library.now) place) }
+fn not_yet(alloc: Global, library: &Name, place: u32) -> Result<Refusal, NoMemory>
+    ensures { IfOk result (λ refusal. refusal_of refusal ≡ not_yet (source_name library.now) place) }
 {
-    match source_file(alloc, library) {
-        Ok(name) => Stop::Refused(Refusal::NotYet { name, place }),
-        Err(_) => Stop::NoMemory,
-    }
+    let name = source_file(alloc, library)?;
+    Ok(Refusal::NotYet { name, place })
 }
 
 /// Runs the sentences in order.
@@ -190,12 +185,10 @@ pub(crate) fn compile(alloc: Global, library: &Name, source: &[u8]) -> Result<En
     match parse(alloc, source) {
         Ok(commands) => {
             let mut env = Env::new(alloc);
-            match run_sentences(alloc, library, &mut env, commands.as_slice()) {
-                Ok(()) => Ok(env),
-                Err(stop) => Err(stop),
-            }
+            run_sentences(alloc, library, &mut env, commands.as_slice())?;
+            Ok(env)
         }
-        Err(ParseFault::NotYet { place }) => Err(not_yet(alloc, library, place)),
+        Err(ParseFault::NotYet { place }) => Err(Stop::Refused(not_yet(alloc, library, place)?)),
         Err(ParseFault::NoMemory) => Err(Stop::NoMemory),
     }
 }

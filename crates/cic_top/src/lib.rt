@@ -12,6 +12,3 @@ mod source;
 pub use answer::{Answer, Refusal};
 pub use command_line::Words;
 pub use running::run;
-
-#[cfg(test)]
-mod tests;

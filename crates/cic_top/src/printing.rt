@@ -1,23 +1,25 @@
-ghost use Rattle.std.specs.Prelude.{◌≡◌, ◌++◌, IfOk, OnOk, Ok, string_bytes, decimal};
-ghost use Rattle.cic_env.specs.Declarations.{declaration};
+ghost use Rattle.std.specs.Prelude.{◌≡◌, ◌++◌, IfOk, OnOk, Ok, string_bytes, decimal, codes};
+ghost use Rattle.cic_names.specs.Texts.{id_text};
+ghost use Rattle.cic_env.specs.Items.{as_item};
 ghost use Rattle.cic_env.specs.Environments.{items};
-ghost use Rattle.cic_rules.specs.Environment.{axiom_of};
+ghost use Rattle.cic_rules.specs.Environment.{axiom_of, declared};
 ghost use Rattle.cic_terms.specs.Denotes.{tree};
-ghost use Rattle.gal_print.specs.Printing.{HasText, Prints, id_text};
+ghost use Rattle.gal_print.specs.Printing.{HasText, Prints};
 ghost use Rattle.gal_print.specs.Appending.{Appends};
 ghost use Rattle.cic_counted.specs.Outcome.{unbound};
-ghost use Rattle.cic_kernel.specs.Verdicts.{cause_of, missing_of};
+ghost use Rattle.cic_work.specs.Verdicts.{cause_of, missing_of};
 ghost use Rattle.cic_top.specs.Texts.{IsCauseText, AxiomLines, IsAxiomList, IsRefusalLine, word_line, line_text, lines_text};
 ghost use Rattle.cic_top.specs.Refusals.{ill};
 ghost use Rattle.cic_top.specs.Views.{refusal_of};
-ghost use Rattle.cic_top.specs.Lines.{HasCauseText, HasAxiomLines, HasLine, AreSortedAxioms, lines_of};
+ghost use Rattle.cic_top.specs.calls.Lines.{IsAxiom, HasCauseText, HasAxiomLines, HasLine, AreSortedAxioms, lines_of};
 
 use crate::answer::Refusal;
-use cic_env::{Cause, Decl, Env, Missing};
-use cic_names::{GlobalId, NoMemory};
+use cic_env::{Cause, Decl, Env, Item, Missing};
+use cic_names::GlobalId;
 use cic_terms::Term;
-use gal_print::{print_id, print_term};
-use std::alloc::{AllocError, Global};
+use gal_print::{print_term, push_number, push_part};
+use memory::NoMemory;
+use std::alloc::Global;
 use std::collections::BTreeMap;
 
 /// A closed term, printed.
@@ -30,29 +32,15 @@ fn printed_term(alloc: Global, t: &Term) -> Result<String, NoMemory>
     Ok(text)
 }
 
-/// A text, where there was memory for it.
-fn with_memory(text: Result<String, AllocError>) -> Result<String, NoMemory>
-    ensures { IfOk result (λ made. text ≡ Ok made) }
+/// The id and the type of an axiom, which is the one item of this language.
+fn axiom_parts(item: &Item) -> (&GlobalId, &Term)
+    requires { IsAxiom (as_item item.now) }
+    ensures { as_item item.now ≡ declared (axiom_of result.0.now (tree result.1.now)) }
 {
-    match text {
-        Ok(text) => Ok(text),
-        Err(_) => Err(NoMemory),
+    match item {
+        Item::Declared(Decl::Axiom { id, ty }) => (id, ty),
+        Item::Declared(_) | Item::Bare(_) => unreachable!(),
     }
-}
-
-/// An id, printed.
-fn printed_id(alloc: Global, id: &GlobalId) -> Result<String, NoMemory>
-    ensures { IfOk result (λ text. string_bytes text ≡ id_text id.now) }
-{
-    with_memory(format!(in alloc; "{}.{}", id.lib.text(), id.name.text()))
-}
-
-/// The id and the type of an axiom, which is the one declaration of this language.
-fn axiom_parts(decl: &Decl) -> (&GlobalId, &Term)
-    ensures { declaration decl.now ≡ axiom_of result.0.now (tree result.1.now) }
-{
-    let Decl::Axiom { id, ty } = decl;
-    (id, ty)
 }
 
 /// The axioms of the environment, each a printed id with its printed type, in the order of the ids.
@@ -61,35 +49,13 @@ fn sorted_axioms(alloc: Global, env: &Env) -> Result<BTreeMap<String, String>, N
     ensures { IfOk result (λ sorted. AreSortedAxioms (items env.now) (lines_of sorted.entries)) }
 {
     let mut sorted = BTreeMap::new(alloc);
-    for decl in env.decls() {
-        let (id, ty) = axiom_parts(decl);
-        let id = printed_id(alloc, id)?;
+    for item in env.items() {
+        let (id, ty) = axiom_parts(item);
+        let id = id.to_string(alloc)?;
         let ty = printed_term(alloc, ty)?;
-        if sorted.insert(id, ty).is_err() {
-            return Err(NoMemory);
-        }
+        sorted.insert(id, ty)?;
     }
     Ok(sorted)
-}
-
-/// Adds a part of a line.
-fn push_part(text: &mut String, part: &str) -> Result<(), NoMemory>
-    ensures { OnOk result (string_bytes text.new ≡ string_bytes text.old ++ part.now) }
-{
-    match text.push_str(part) {
-        Ok(()) => Ok(()),
-        Err(_) => Err(NoMemory),
-    }
-}
-
-/// Adds a number.
-fn push_number(text: &mut String, number: u32) -> Result<(), NoMemory>
-    ensures { OnOk result (string_bytes text.new ≡ string_bytes text.old ++ decimal number) }
-{
-    match write!(text, "{number}") {
-        Ok(()) => Ok(()),
-        Err(_) => Err(NoMemory),
-    }
 }
 
 /// Adds a line of the list of axioms.
@@ -119,11 +85,18 @@ pub(crate) fn axiom_list(alloc: Global, env: &Env) -> Result<String, NoMemory>
 {
     let sorted = sorted_axioms(alloc, env)?;
     if sorted.is_empty() {
-        return with_memory(String::from_str(alloc, "Closed under the global context\n"));
+        return Ok(String::from_str(alloc, "Closed under the global context\n")?);
     }
-    let mut text = with_memory(String::from_str(alloc, "Axioms:\n"))?;
+    let mut text = String::from_str(alloc, "Axioms:\n")?;
     push_lines(&mut text, &sorted)?;
     Ok(text)
+}
+
+/// Adds that an id is not declared.
+fn push_unbound_id(text: &mut String, id: &GlobalId) -> Result<(), NoMemory>
+    ensures { OnOk result (string_bytes text.new ≡ string_bytes text.old ++ (id_text id.now ++ codes " is unbound.")) }
+{
+    write!(text, "{id} is unbound.").map_err(|_| NoMemory)
 }
 
 /// Adds that an id or a variable is not there.
@@ -131,10 +104,7 @@ fn push_unbound(text: &mut String, what: &Missing) -> Result<(), NoMemory>
     ensures { OnOk result (Appends (IsCauseText (unbound (missing_of what.now))) (string_bytes text.old) (string_bytes text.new)) }
 {
     match what {
-        Missing::Global(id) => {
-            print_id(text, id)?;
-            push_part(text, " is unbound.")
-        }
+        Missing::Global(id) => push_unbound_id(text, id),
         Missing::Local(k) => {
             push_part(text, "variable ")?;
             push_number(text, *k)?;
@@ -163,9 +133,7 @@ fn ill_line(alloc: Global, id: &GlobalId, cause: &Cause) -> Result<String, NoMem
     requires { HasCauseText (cause_of cause.now) }
     ensures { IfOk result (λ text. IsRefusalLine (ill id.now (cause_of cause.now)) (string_bytes text)) }
 {
-    let mut text = with_memory(String::from_str(alloc, "Error: In "))?;
-    print_id(&mut text, id)?;
-    push_part(&mut text, ": ")?;
+    let mut text = format!(in alloc; "Error: In {id}: ")?;
     push_cause(&mut text, cause)?;
     push_part(&mut text, "\n")?;
     Ok(text)
@@ -177,30 +145,21 @@ pub(crate) fn refusal_line(alloc: Global, refusal: &Refusal) -> Result<String, N
     ensures { IfOk result (λ text. IsRefusalLine (refusal_of refusal.now) (string_bytes text)) }
 {
     match refusal {
-        Refusal::NoFile { name } => with_memory(format!(in alloc;
-            "Error: no file {}.\n",
-            name.text()
-        )),
+        Refusal::NoFile { name } => Ok(format!(in alloc; "Error: no file {}.\n", name.text())?),
         Refusal::NotYet { name, place } => {
-            with_memory(format!(in alloc; "Error: {}: not yet at byte {place}.\n", name.text()))
+            Ok(format!(in alloc; "Error: {}: not yet at byte {place}.\n", name.text())?)
         }
         Refusal::Duplicate { name } => {
-            with_memory(format!(in alloc; "Error: duplicate name {}.\n", name.text()))
+            Ok(format!(in alloc; "Error: duplicate name {}.\n", name.text())?)
         }
         Refusal::Unknown { name } => {
-            with_memory(format!(in alloc; "Error: unknown name {}.\n", name.text()))
+            Ok(format!(in alloc; "Error: unknown name {}.\n", name.text())?)
         }
         Refusal::Ill { id, cause } => ill_line(alloc, id, cause),
         Refusal::Spent { id, budget } => {
-            let id = printed_id(alloc, id)?;
-            with_memory(format!(in alloc;
-                "Error: In {id}: the budget of {budget} steps is spent.\n"
-            ))
+            Ok(format!(in alloc; "Error: In {id}: the budget of {budget} steps is spent.\n")?)
         }
-        Refusal::Deep { id } => {
-            let id = printed_id(alloc, id)?;
-            with_memory(format!(in alloc; "Error: In {id}: too deep.\n"))
-        }
+        Refusal::Deep { id } => { Ok(format!(in alloc; "Error: In {id}: too deep.\n")?) }
     }
 }
 
@@ -208,5 +167,5 @@ pub(crate) fn refusal_line(alloc: Global, refusal: &Refusal) -> Result<String, N
 pub(crate) fn word_line(alloc: Global, k: u32) -> Result<String, NoMemory>
     ensures { IfOk result (λ text. string_bytes text ≡ word_line k) }
 {
-    with_memory(format!(in alloc; "Error: word {k} is not understood.\n"))
+    Ok(format!(in alloc; "Error: word {k} is not understood.\n")?)
 }

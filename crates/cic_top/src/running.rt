@@ -6,14 +6,13 @@ ghost use Rattle.cic_rules.specs.Environment.{Environment};
 ghost use Rattle.cic_top.specs.CommandLine.{source_name, FirstNotUnderstood};
 ghost use Rattle.cic_top.specs.Refusals.{Refusal as Reason, passed, not_understood, refused, read_fault, sink_fault, no_memory};
 ghost use Rattle.cic_top.specs.Texts.{IsAxiomList, IsRefusalLine};
-ghost use Rattle.cic_top.specs.Lines.{HasLine, HasAxiomLines};
-ghost use Rattle.cic_top.specs.Sources.{Fits};
+ghost use Rattle.cic_top.specs.calls.Lines.{HasLine, HasAxiomLines};
+ghost use Rattle.cic_top.specs.calls.Sources.{DescribesContent};
 ghost use Rattle.cic_top.specs.Command.{Refuses, Accepts, IsAccepted};
-ghost use Rattle.cic_top.specs.Replies.{RepliesTo, Says};
-ghost use Rattle.cic_top.specs.Runs.{UnlessFault, IsOrFault, SaysAndSends, SaysAndSendsPart, AnswersAsStatedUnlessFaults};
+ghost use Rattle.cic_top.specs.calls.Replying.{RepliesTo, RepliesRefusal, RepliesList, RepliesWord};
+ghost use Rattle.cic_top.specs.Runs.{Says, UnlessFault, IsOrFault, SaysAndSends, SaysAndSendsPart, AnswersAsStatedUnlessFaults};
 ghost use Rattle.cic_top.specs.Formed.{AcceptsFormed};
 ghost use Rattle.cic_top.specs.Views.{answer_of, refusal_of};
-ghost use Rattle.cic_top.specs.Replying.{RepliesRefusal, RepliesList, RepliesWord, RepliesStop, StopHasLine, OnlyNoMemory};
 
 use crate::answer::{Answer, Refusal};
 use crate::command_line::{Misread, Words, command};
@@ -22,7 +21,8 @@ use crate::printing::{axiom_list, refusal_line, word_line};
 use crate::source::{LONGEST_SOURCE, Source, source_in};
 use cic_env::Env;
 use cic_io::{FileName, Folder, FolderFault, Sink, SinkFault};
-use cic_names::{Name, NoMemory};
+use cic_names::Name;
+use memory::NoMemory;
 use std::alloc::Global;
 
 /// What a command says: its answer, and what it prints.
@@ -33,14 +33,11 @@ struct Reply {
 }
 
 /// The reply that refuses.
-fn refusing(alloc: Global, refusal: Refusal) -> Result<Reply, FolderFault>
+fn refusing(alloc: Global, refusal: Refusal) -> Result<Reply, NoMemory>
     requires { HasLine (refusal_of refusal) }
-    ensures reply { IfOk result (RepliesRefusal (refusal_of refusal)) }
-    ensures fault { OnlyNoMemory result }
+    ensures { IfOk result (RepliesRefusal (refusal_of refusal)) }
 {
-    let Ok(output) = refusal_line(alloc, &refusal) else {
-        return Err(FolderFault::NoMemory);
-    };
+    let output = refusal_line(alloc, &refusal)?;
     Ok(Reply {
         answer: Answer::Refused(refusal),
         output,
@@ -48,41 +45,37 @@ fn refusing(alloc: Global, refusal: Refusal) -> Result<Reply, FolderFault>
 }
 
 /// The reply that accepts an environment.
-fn accepting(alloc: Global, env: &Env) -> Result<Reply, FolderFault>
+fn accepting(alloc: Global, env: &Env) -> Result<Reply, NoMemory>
     requires { HasAxiomLines (items env.now) }
-    ensures reply { IfOk result (RepliesList (items env.now)) }
-    ensures fault { OnlyNoMemory result }
+    ensures { IfOk result (RepliesList (items env.now)) }
 {
-    let Ok(output) = axiom_list(alloc, env) else {
-        return Err(FolderFault::NoMemory);
-    };
+    let output = axiom_list(alloc, env)?;
     Ok(Reply {
         answer: Answer::Passed,
         output,
     })
 }
 
-/// The reply to why a source gave no environment.
-fn stopping(alloc: Global, stop: Stop) -> Result<Reply, FolderFault>
-    requires { StopHasLine stop }
-    ensures reply { IfOk result (RepliesStop stop) }
-    ensures fault { OnlyNoMemory result }
+/// The reply to words that are no command line.
+fn misreading(alloc: Global, k: u32) -> Result<Reply, NoMemory>
+    ensures { IfOk result (RepliesWord k) }
 {
-    match stop {
-        Stop::Refused(refusal) => refusing(alloc, refusal),
-        Stop::NoMemory => Err(FolderFault::NoMemory),
-    }
+    let output = word_line(alloc, k)?;
+    Ok(Reply {
+        answer: Answer::Words(k),
+        output,
+    })
 }
 
 /// The reply on a library, by the text of its source.
-fn over_text(alloc: Global, library: &Name, text: &[u8]) -> Result<Reply, FolderFault>
-    ensures reply { IfOk result (λ reply.
+fn over_text(alloc: Global, library: &Name, text: &[u8]) -> Result<Reply, NoMemory>
+    ensures { IfOk result (λ reply.
         RepliesTo library.now (Some text.now) (answer_of reply.answer) (string_bytes reply.output)) }
-    ensures fault { OnlyNoMemory result }
 {
     match compile(alloc, library, text) {
         Ok(env) => accepting(alloc, &env),
-        Err(stop) => stopping(alloc, stop),
+        Err(Stop::Refused(refusal)) => refusing(alloc, refusal),
+        Err(Stop::NoMemory) => Err(NoMemory),
     }
 }
 
@@ -92,11 +85,10 @@ fn over_source(
     library: &Name,
     name: FileName,
     source: Source,
-) -> Result<Reply, FolderFault>
+) -> Result<Reply, NoMemory>
     requires { name ≡ source_name library.now }
-    ensures reply { IfOk result (λ reply. (bytes : Option (List ℕ)) → Fits source bytes →
+    ensures { IfOk result (λ reply. (bytes : Option (List ℕ)) → DescribesContent source bytes →
         RepliesTo library.now bytes (answer_of reply.answer) (string_bytes reply.output)) }
-    ensures fault { OnlyNoMemory result }
 {
     match source {
         Source::Absent => refusing(alloc, Refusal::NoFile { name }),
@@ -121,28 +113,12 @@ fn reply_over<F: Folder>(alloc: Global, words: &Words, folder: &mut F) -> Result
 {
     let library = match command(alloc, words) {
         Ok(library) => library,
-        Err(Misread::Word(k)) => return misreading(alloc, k),
+        Err(Misread::Word(k)) => return Ok(misreading(alloc, k)?),
         Err(Misread::NoMemory) => return Err(FolderFault::NoMemory),
     };
-    let Ok(name) = source_file(alloc, &library) else {
-        return Err(FolderFault::NoMemory);
-    };
+    let name = source_file(alloc, &library)?;
     let source = source_in(alloc, folder, name.text())?;
-    over_source(alloc, &library, name, source)
-}
-
-/// The reply to words that are no command line.
-fn misreading(alloc: Global, k: u32) -> Result<Reply, FolderFault>
-    ensures reply { IfOk result (RepliesWord k) }
-    ensures fault { OnlyNoMemory result }
-{
-    let Ok(output) = word_line(alloc, k) else {
-        return Err(FolderFault::NoMemory);
-    };
-    Ok(Reply {
-        answer: Answer::Words(k),
-        output,
-    })
+    Ok(over_source(alloc, &library, name, source)?)
 }
 
 /// Runs a command line over a folder, and prints to a sink.

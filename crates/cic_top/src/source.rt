@@ -1,6 +1,6 @@
 ghost use Rattle.std.specs.Prelude.{◌≡◌, IfOk};
 ghost use Rattle.cic_io.specs.Faults.{FailedRose, OthersQuiet};
-ghost use Rattle.cic_top.specs.Sources.{FoundUnder};
+ghost use Rattle.cic_top.specs.calls.Sources.{FoundUnder};
 
 use cic_io::{Folder, FolderFault, read_whole};
 use std::alloc::Global;

@@ -8,7 +8,7 @@ use Rattle.cic_terms.specs.declared.term.Term.{Term}
 use Rattle.cic_rules.specs.Environment.{Environment}
 use Rattle.gal_parser.specs.Grammar as G
 use Rattle.gal_elab.specs.Scoping.{Binders, StandsFor, prop_stands, variable_stands, constant_stands, for_all_stands, arrow_stands, FirstUnknown, unknown_name, unknown_in_type, unknown_in_body, unknown_before_arrow, unknown_behind_arrow}
-use Rattle.gal_elab.specs.Resolving.{Resolved, found, unknown}
+use Rattle.gal_elab.specs.calls.Resolving.{Resolved, found, unknown}
 use Rattle.gal_elab.specs.Answers.{OnUnknown}
 use Rattle.gal_elab.specs.declared.elaborating.ElabFault.{ElabFault}
 use Rattle.gal_elab.specs.declared.elaborating.ElabFault.TheVariants.{Unknown, NoMemory}

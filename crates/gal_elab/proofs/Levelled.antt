@@ -3,8 +3,9 @@
 use Rattle.std.proofs.Common.{◌≡◌, ◌≢◌, ℕ, suc, ◌-◌, ◌<◌, List, [], ◌∷◌, length, Bool, true, false, cond, nat_eq, refl, sym, ap, subst, ◌∙◌, arith}
 use Rattle.std.specs.Prelude.{Option, Some, None}
 use Rattle.std.specs.Cmp.Lexicographic.{pointwise, bytes_decides}
+use Rattle.std.proofs.lemmas.Bool.{true≢false}
 use Rattle.gal_elab.specs.Scoping.{Binders, NamesVariable, here, there, NamesNone, no_binder, another}
-use Rattle.gal_elab.specs.Resolving.{Levels, put}
+use Rattle.gal_elab.specs.calls.Resolving.{Levels, put}
 
 -- the levels inside one binder more, which has so many outside it
 abbrev pub put_binder : Option (List ℕ) → ℕ → Levels → Levels
@@ -19,9 +20,6 @@ levels_of (binder ∷ outer) = put_binder binder (length outer) (levels_of outer
 abbrev pub LevelTells : Binders → List ℕ → Option ℕ → Type 0
 LevelTells binders name None = NamesNone binders name
 LevelTells binders name (Some level) = (level < length binders) × NamesVariable binders name (length binders - 1 - level)
-
-true-false : true ≡ false → ⊥
-true-false h = cc
 
 level_outside : (binder : Option (List ℕ)) (outer : Binders) (name : List ℕ) (level : Option ℕ) →
     binder ≢ Some name → LevelTells outer name level → LevelTells (binder ∷ outer) name level
@@ -39,7 +37,7 @@ level_under : (binder name : List ℕ) (outer : Binders) (level : Option ℕ) (b
     LevelTells outer name level → LevelTells (Some binder ∷ outer) name (cond b (Some (length outer)) level)
 level_under binder name outer level true same tells = level_inside binder name outer ((bytes_decides binder name).0 same)
 level_under binder name outer level false same tells =
-    let other : Some binder ≢ Some name = λ h. let e : binder ≡ name = cc in true-false (sym ((bytes_decides binder name).1 e) ∙ same) in
+    let other : Some binder ≢ Some name = λ h. let e : binder ≡ name = cc in true≢false (sym ((bytes_decides binder name).1 e) ∙ same) in
     level_outside (Some binder) outer name level other tells
 
 pub level_tells : (binders : Binders) (name : List ℕ) → LevelTells binders name (levels_of binders name)

@@ -5,6 +5,7 @@ use Rattle.std.specs.Prelude.{Option, Some, None, IsTrue, ◌↔◌, ◌||◌, R
 use Rattle.std.specs.Cmp.Lexicographic.{pointwise}
 use Rattle.std.specs.HashMap.{HashMap}
 use Rattle.std.specs.Map.{lookup}
+use Rattle.std.proofs.lemmas.Bool.{true≢false}
 use Rattle.cic_terms.specs.Tree.{Tree, const}
 use Rattle.cic_terms.specs.Denotes.{tree}
 use Rattle.cic_terms.specs.declared.term.Term.{Term}
@@ -14,15 +15,13 @@ use Rattle.cic_rules.specs.Environment.{Environment, environment_ids}
 use Rattle.cic_names.proofs.Equality.{same_id_decides}
 use Rattle.gal_parser.specs.Grammar as G
 use Rattle.gal_elab.specs.Scoping.{Binders, NamesNone, id_of, StandsFor, prop_stands, variable_stands, constant_stands, for_all_stands, arrow_stands, FirstUnknown, unknown_name, unknown_in_type, unknown_in_body, unknown_before_arrow, unknown_behind_arrow}
-use Rattle.gal_elab.specs.Resolving.{Levels, put, Resolved, found, unknown, is_among, constant_or_unknown, resolve_name, product, resolve}
-use Rattle.gal_elab.specs.Answers.{reason, Resolves, MakesProduct, levels_in}
+use Rattle.gal_elab.specs.calls.Resolving.{Levels, put, Resolved, found, unknown, is_among, constant_or_unknown, resolve_name, product, resolve}
+use Rattle.gal_elab.specs.Answers.{reason}
+use Rattle.gal_elab.specs.calls.LookingUp.{Resolves, MakesProduct, levels_in}
 use Rattle.memory.specs.Telling.{Tells}
 use Rattle.gal_elab.specs.declared.elaborating.ElabFault.{ElabFault}
 use Rattle.gal_elab.specs.declared.elaborating.ElabFault.TheVariants.{Unknown, NoMemory}
 use Rattle.gal_elab.proofs.Levelled.{levels_of, LevelTells, level_tells}
-
-true-false : true ≡ false → ⊥
-true-false h = cc
 
 first_or_later : (id first : GlobalId) (rest : List GlobalId) (b : Bool) → same_id first id ≡ b → b || is_among id rest ≡ true →
     (is_among id rest ≡ true → Contains rest id) → Contains (first ∷ rest) id
@@ -30,16 +29,16 @@ first_or_later id first rest true same is later = (0, omega arith, (same_id_deci
 first_or_later id first rest false same is later = let there = later is in (suc there.0, omega (arith, there.1), there.2)
 
 pub among-contained : (id : GlobalId) (ids : List GlobalId) → is_among id ids ≡ true → Contains ids id
-among-contained id [] is = absurd (true-false (sym is))
+among-contained id [] is = absurd (true≢false (sym is))
 among-contained id (first ∷ rest) is = first_or_later id first rest _ refl is (among-contained id rest)
 
 second_false : (a b : Bool) → a || b ≡ false → b ≡ false
-second_false true b is = absurd (true-false is)
+second_false true b is = absurd (true≢false is)
 second_false false b is = is
 
 pub among-all : (id : GlobalId) (ids : List GlobalId) → is_among id ids ≡ false → Contains ids id → ⊥
 among-all id [] is has = omega (arith, has.1)
-among-all id (first ∷ rest) is (zero, within, same) = true-false (sym (subst (λ k. same_id k id || is_among id rest ≡ true) (sym same) (rw ((same_id_decides id id).1 refl) refl)) ∙ is)
+among-all id (first ∷ rest) is (zero, within, same) = true≢false (sym (subst (λ k. same_id k id || is_among id rest ≡ true) (sym same) (rw ((same_id_decides id id).1 refl) refl)) ∙ is)
 among-all id (first ∷ rest) is (suc k, within, same) = among-all id rest (second_false (same_id first id) (is_among id rest) is) (k, omega (arith, within), same)
 
 pub contained-among : (id : GlobalId) (ids : List GlobalId) → Contains ids id → is_among id ids ≡ true
@@ -111,7 +110,7 @@ pub undeclared_is_unknown : (library name : List ℕ) (ids : List GlobalId) (id 
     constant_or_unknown (is_among (id_of library name) ids) library name ≡ unknown id.name
 undeclared_is_unknown library name ids id answer told is named =
     ap (λ b. constant_or_unknown b library name)
-    (absent-among _ _ (λ has. true-false (sym (told.1 (subst (Contains ids) (sym named) has)) ∙ is)))
+    (absent-among _ _ (λ has. true≢false (sym (told.1 (subst (Contains ids) (sym named) has)) ∙ is)))
     ∙ ap (λ i. unknown i.name) (sym named)
 
 -- A fault of the left part is the product's.

@@ -1,4 +1,4 @@
--- What a term that is written with names stands for, and what the calls that look names up say of it.
+-- What a term that is written with names stands for, and what an answer says of it.
 pub mod Scoping
-pub mod Resolving
 pub mod Answers
+pub mod calls

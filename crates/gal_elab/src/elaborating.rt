@@ -6,8 +6,9 @@ ghost use Rattle.cic_terms.specs.Denotes.{tree};
 ghost use Rattle.cic_env.specs.Environments.{items};
 ghost use Rattle.gal_parser.specs.Views.{raw_term};
 ghost use Rattle.gal_elab.specs.Scoping.{id_of, StandsFor, FirstUnknown};
-ghost use Rattle.gal_elab.specs.Resolving.{resolve, resolve_name, put};
-ghost use Rattle.gal_elab.specs.Answers.{OnUnknown, Resolves, MakesProduct, levels_in};
+ghost use Rattle.gal_elab.specs.calls.Resolving.{resolve, resolve_name, put};
+ghost use Rattle.gal_elab.specs.Answers.{OnUnknown};
+ghost use Rattle.gal_elab.specs.calls.LookingUp.{Resolves, MakesProduct, levels_in};
 
 use crate::levels::{Levels, enter, leave};
 use cic_env::Env;
@@ -46,12 +47,12 @@ struct Library<'a> {
 }
 
 /// The id of a name of the library.
-fn id_of(library: &Name, name: &Name) -> Result<GlobalId, NoMemory>
+pub fn id_of(library: &Name, name: &Name) -> Result<GlobalId, NoMemory>
     ensures { IfOk result (λ id. id ≡ id_of library.now name.now) }
 {
     Ok(GlobalId {
-        lib: library.copy()?,
-        name: name.copy()?,
+        lib: library.clone()?,
+        name: name.clone()?,
     })
 }
 

@@ -1,8 +1,8 @@
 //! The levels of the binders around a term, by their names.
 
 ghost use Rattle.std.specs.Prelude.{◌≡◌, IfOk, OnOk, Some};
-ghost use Rattle.gal_elab.specs.Resolving.{put};
-ghost use Rattle.gal_elab.specs.Answers.{levels_in};
+ghost use Rattle.gal_elab.specs.calls.Resolving.{put};
+ghost use Rattle.gal_elab.specs.calls.LookingUp.{levels_in};
 
 use cic_names::Name;
 use memory::NoMemory;
@@ -16,7 +16,7 @@ pub(crate) fn enter(levels: &mut Levels, name: &Name, level: u32) -> Result<Opti
     ensures hidden { IfOk result (λ hidden. hidden ≡ levels_in levels.old name.now) }
     ensures levels { OnOk result (levels_in levels.new ≡ put name.now (Some level) (levels_in levels.old)) }
 {
-    Ok(levels.insert(name.copy()?, level)?)
+    Ok(levels.insert(name.clone()?, level)?)
 }
 
 /// Gives the name the level that it had before.

@@ -6,5 +6,5 @@ mod elaborating;
 mod laws;
 mod levels;
 
-pub use elaborating::{ElabFault, elab_type};
+pub use elaborating::{ElabFault, elab_type, id_of};
 pub use laws::{known_or_unknown, one_term};

@@ -4,7 +4,7 @@ use Rattle.std.proofs.Common.{ℕ, List, [], ◌∷◌, ◌++◌, ◌≡◌, ◌
 use Rattle.std.specs.Prelude.{codes}
 use Rattle.gal_parser.specs.Tokens.{after_blanks, SpellsWord, SpellsIdentifier, SpellsColon, SpellsStop, SpellsSymbol}
 use Rattle.gal_parser.specs.Grammar.{RawTerm, name, for_all, arrow, Sentence, axiom_sentence, SpellsTerm, spells_for_all, spells_arrow, spells_atom, SpellsAtom, spells_prop, spells_name, spells_group, deepest_nesting, SpellsSentence, spells_axiom, SpellsSentences, no_sentence, one_more, longest_source, Reads, NotYetAt, too_long, unread}
-use Rattle.gal_parser.specs.Answers.{Lacks, TakesAll}
+use Rattle.gal_parser.specs.calls.Reading.{Lacks, ReadsAll}
 use Rattle.gal_parser.specs.declared.lexer.Fault.{Fault}
 use Rattle.gal_parser.specs.declared.lexer.Fault.TheVariants.{NoMatch, NoMemory}
 use Rattle.gal_parser.proofs.TokenLaws.{one_word, one_identifier, one_colon, one_stop, word_at, identifier_at, colon_at, symbol_at, no_identifier_at, no_word_at_end, no_word_at_parenthesis, blanks_shorten, word_shortens, colon_shortens, stop_shortens, symbol_leaves}
@@ -187,7 +187,7 @@ goes_on {r = r} (one_more h t) (one_more {cs = cs'} h' t') last =
     (es, rest, (cc))
 
 -- the sentences after which none begins are the longest list
-longest_left : {s q r : List ℕ} {ds cs : List Sentence} → TakesAll s r cs → SpellsSentences s q ds → length r ≤ length q
+longest_left : {s q r : List ℕ} {ds cs : List Sentence} → ReadsAll s r cs → SpellsSentences s q ds → length r ≤ length q
 longest_left all t = let (es, more, e) = goes_on t all.spelled all.last in sentences_shorten more
 
 -- where only blanks follow, no list of sentences goes on
@@ -196,7 +196,7 @@ no_more e no_sentence = (refl, refl)
 no_more e (one_more h t) = absurd (no_sentence_at_end e h)
 
 -- what is read of a source is all of it
-pub only_these : {s r : List ℕ} {cs ds : List Sentence} → TakesAll s r cs → Reads s ds → (cs ≡ ds) × (after_blanks r ≡ [])
+pub only_these : {s r : List ℕ} {cs ds : List Sentence} → ReadsAll s r cs → Reads s ds → (cs ≡ ds) × (after_blanks r ≡ [])
 only_these {ds = ds} all whole =
     let (es, more, e) = goes_on whole.sentences all.spelled all.last in
     let (nothing, here) = no_more whole.blanks more in
@@ -208,7 +208,7 @@ as_long le no_sentence = refl
 as_long le (one_more h t) = let a = sentence_shortens h in let b = sentences_shorten t in absurd (omega arith)
 
 -- the place where a text is not understood is the one behind the sentences that are read
-pub only_place : {s r : List ℕ} {cs : List Sentence} {place : ℕ} → TakesAll s r cs → length s ≤ longest_source → NotYetAt s place →
+pub only_place : {s r : List ℕ} {cs : List Sentence} {place : ℕ} → ReadsAll s r cs → length s ≤ longest_source → NotYetAt s place →
     (0 < length (after_blanks r)) × (place + length (after_blanks r) ≡ length s)
 only_place all short (too_long over e) = absurd (omega arith)
 only_place {s = s} {r = r} {cs = cs} {place = place} all short (unread short' at) =
@@ -217,7 +217,7 @@ only_place {s = s} {r = r} {cs = cs} {place = place} all short (unread short' at
     (subst (λ z. 0 < length (after_blanks z)) same at.byte, subst (λ z. place + length (after_blanks z) ≡ length s) same at.position)
 
 -- the place behind the sentences that are read, if a byte that is no blank follows them
-pub unread_at : {s r : List ℕ} {cs : List Sentence} {place : ℕ} → TakesAll s r cs → length s ≤ longest_source →
+pub unread_at : {s r : List ℕ} {cs : List Sentence} {place : ℕ} → ReadsAll s r cs → length s ≤ longest_source →
     0 < length (after_blanks r) → place + length (after_blanks r) ≡ length s → NotYetAt s place
 unread_at {r = r} {cs = cs} all short byte position = unread short (record {
   rest = r;
@@ -227,5 +227,5 @@ unread_at {r = r} {cs = cs} all short byte position = unread short (record {
 })
 
 -- what is left after the sentences and blanks is part of the source
-pub all_shorten : {s r : List ℕ} {cs : List Sentence} → TakesAll s r cs → length (after_blanks r) ≤ length s
+pub all_shorten : {s r : List ℕ} {cs : List Sentence} → ReadsAll s r cs → length (after_blanks r) ≤ length s
 all_shorten {r = r} all = let a = blanks_shorten r in let b = sentences_shorten all.spelled in omega arith

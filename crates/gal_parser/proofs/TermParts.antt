@@ -4,7 +4,7 @@ use Rattle.std.proofs.Common.{ℕ, suc, List, ◌≡◌, ◌≢◌, ◌-◌, ref
 use Rattle.std.specs.Prelude.{Result, Ok, Err, codes}
 use Rattle.gal_parser.specs.Tokens.{after_blanks, SpellsWord, SpellsIdentifier, SpellsColon, SpellsSymbol}
 use Rattle.gal_parser.specs.Grammar.{RawTerm, for_all, SpellsTerm, spells_for_all, spells_arrow, spells_atom, SpellsAtom, spells_prop, spells_name, spells_group}
-use Rattle.gal_parser.specs.Answers.{Takes, SpellsBinding, spells_binding}
+use Rattle.gal_parser.specs.calls.Reading.{ReadsOrLacks, SpellsBinding, spells_binding}
 use Rattle.gal_parser.specs.declared.lexer.Fault.{Fault}
 use Rattle.gal_parser.proofs.TokenLaws.{one_word, one_identifier, one_symbol, colon_at, symbol_at, no_word_at_parenthesis}
 use Rattle.gal_parser.proofs.GrammarLaws.{lacks_part, one_term_at, one_atom, no_atom_at_forall}
@@ -24,7 +24,7 @@ pub of_binding : {m : ℕ} {s a r : List ℕ} {t : RawTerm} → SpellsWord (afte
 of_binding h (spells_binding k2 k3 k4 k5 k6) = spells_for_all h k2 k3 k4 k5 k6
 
 pub takes_binding : {X : Type 0} (m : ℕ) (value : X → RawTerm) (result : Result X Fault) (s a r : List ℕ) → SpellsWord (after_blanks s) a (codes "forall") →
-    Takes (SpellsBinding m) value result a r → Takes (SpellsTerm (suc m)) value result s r
+    ReadsOrLacks (SpellsBinding m) value result a r → ReadsOrLacks (SpellsTerm (suc m)) value result s r
 takes_binding m value (Ok x) s a r h b = of_binding h b
 takes_binding m value (Err e) s a r h b = lacks_part e b (λ q t w. (q, t, binding_of h w))
 

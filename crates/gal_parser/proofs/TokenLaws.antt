@@ -7,13 +7,9 @@ use Rattle.std.specs.Str.{chars, is_utf8}
 use Rattle.std.proofs.lemmas.Bool.Decides.{nat_tests}
 use Rattle.std.specs.Int.{is_in_range}
 use Rattle.std.specs.List.{list_all, prefix_len}
+use Rattle.std.proofs.lemmas.Bool.{and_parts}
 use Rattle.cic_names.specs.Identifier.{is_word, is_reserved, IsIdentifier}
 use Rattle.gal_parser.specs.Tokens.{is_blank, after_blanks, first_passes, begins_word, continues_word, SpellsWord, SpellsIdentifier, SpellsColon, SpellsStop, SpellsSymbol}
-
-both_true : (a b : Bool) → (a && b) ≡ true → (a ≡ true) × (b ≡ true)
-both_true true true e = (refl, refl)
-both_true true false e = absurd (cc)
-both_true false b e = absurd (cc)
 
 -- two ways to cut a text where the elements of a run stop to pass are one way
 one_run : (p : ℕ → Bool) (w w' r r' : List ℕ) → w ++ r ≡ w' ++ r' → list_all p w ≡ true → list_all p w' ≡ true →
@@ -21,13 +17,13 @@ one_run : (p : ℕ → Bool) (w w' r r' : List ℕ) → w ++ r ≡ w' ++ r' → 
 one_run p [] [] r r' e a a' l l' = (refl, e)
 one_run p [] (y ∷ w') r r' e a a' l l' =
     let passes : first_passes p r ≡ p y = ap (first_passes p) e in
-    let h = (both_true (p y) (list_all p w') a').0 in absurd (cc)
+    let h = (and_parts (p y) (list_all p w') a').0 in absurd (cc)
 one_run p (x ∷ w) [] r r' e a a' l l' =
     let passes : p x ≡ first_passes p r' = ap (first_passes p) e in
-    let h = (both_true (p x) (list_all p w) a).0 in absurd (cc)
+    let h = (and_parts (p x) (list_all p w) a).0 in absurd (cc)
 one_run p (x ∷ w) (y ∷ w') r r' e a a' l l' =
     let tails : w ++ r ≡ w' ++ r' = (cc) in
-    let same = one_run p w w' r r' tails (both_true (p x) (list_all p w) a).1 (both_true (p y) (list_all p w') a').1 l l' in
+    let same = one_run p w w' r r' tails (and_parts (p x) (list_all p w) a).1 (and_parts (p y) (list_all p w') a').1 l l' in
     let heads : x ≡ y = (cc) in
     let front = same.0 in
     ((cc), same.1)

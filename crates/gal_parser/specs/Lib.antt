@@ -1,5 +1,6 @@
--- The grammar of sources, and what the calls of the parser say of it.
+-- The grammar of sources, and what the parser answers.
 pub mod Tokens
 pub mod Grammar
 pub mod Answers
 pub mod Views
+pub mod calls

@@ -2,7 +2,7 @@
 
 ghost use Rattle.std.specs.Prelude.{◌≡◌, ◌≤◌, ◌<◌, ◌↔◌, ◌||◌, ◌==◌, ℕ, List, length, IsTrue, IfOk, take_while};
 ghost use Rattle.std.specs.List.{prefix_len};
-ghost use Rattle.gal_parser.specs.Answers.{Takes, TakesIf, TakesOrLeaves};
+ghost use Rattle.gal_parser.specs.calls.Reading.{ReadsOrLacks, ReadsIf, ReadsOrLeaves};
 ghost use Rattle.gal_parser.specs.declared.lexer.Fault.TheVariants.{NoMemory};
 ghost use Rattle.gal_parser.specs.Tokens.{is_blank, after_blanks, begins_word, continues_word, first_passes, ends_or_blank, SpellsWord, SpellsIdentifier, SpellsColon, SpellsStop, SpellsSymbol};
 
@@ -76,7 +76,7 @@ pub struct Reader<'a> {
 impl<'a> Reader<'a> {
     /// The longest word, if a word is next; else the reader stays.
     pub fn word(&mut self) -> Option<&'a [u8]>
-        ensures { TakesOrLeaves (λ s r w. SpellsWord (after_blanks s) r w) (λ w. w.now) result self.old.rest.now self.new.rest.now }
+        ensures { ReadsOrLeaves (λ s r w. SpellsWord (after_blanks s) r w) (λ w. w.now) result self.old.rest.now self.new.rest.now }
     {
         let text = after_blanks(self.rest);
         match text.first() {
@@ -88,9 +88,9 @@ impl<'a> Reader<'a> {
         Some(word)
     }
 
-    /// Takes the word if it is the next one; else the reader stays.
+    /// ReadsOrLacks the word if it is the next one; else the reader stays.
     pub fn takes_keyword(&mut self, expected: &[u8]) -> bool
-        ensures { TakesIf (λ s r. SpellsWord (after_blanks s) r expected.now) result self.old.rest.now self.new.rest.now }
+        ensures { ReadsIf (λ s r. SpellsWord (after_blanks s) r expected.now) result self.old.rest.now self.new.rest.now }
     {
         let start = self.rest;
         let Some(word) = self.word() else {
@@ -105,7 +105,7 @@ impl<'a> Reader<'a> {
 
     /// The word that is expected.
     pub fn keyword(&mut self, expected: &[u8]) -> Result<(), Fault>
-        ensures { Takes (λ s r _. SpellsWord (after_blanks s) r expected.now) (λ u. u) result self.old.rest.now self.new.rest.now }
+        ensures { ReadsOrLacks (λ s r _. SpellsWord (after_blanks s) r expected.now) (λ u. u) result self.old.rest.now self.new.rest.now }
     {
         if self.takes_keyword(expected) {
             Ok(())
@@ -114,9 +114,9 @@ impl<'a> Reader<'a> {
         }
     }
 
-    /// Takes the symbol if it is the next one; else the reader stays.
+    /// ReadsOrLacks the symbol if it is the next one; else the reader stays.
     pub fn takes_symbol(&mut self, expected: &[u8]) -> bool
-        ensures { TakesIf (λ s r. SpellsSymbol expected.now (after_blanks s) r) result self.old.rest.now self.new.rest.now }
+        ensures { ReadsIf (λ s r. SpellsSymbol expected.now (after_blanks s) r) result self.old.rest.now self.new.rest.now }
     {
         match after_blanks(self.rest).strip_prefix(expected) {
             Some(rest) => {
@@ -129,7 +129,7 @@ impl<'a> Reader<'a> {
 
     /// The symbol that is expected.
     pub fn symbol(&mut self, expected: &[u8]) -> Result<(), Fault>
-        ensures { Takes (λ s r _. SpellsSymbol expected.now (after_blanks s) r) (λ u. u) result self.old.rest.now self.new.rest.now }
+        ensures { ReadsOrLacks (λ s r _. SpellsSymbol expected.now (after_blanks s) r) (λ u. u) result self.old.rest.now self.new.rest.now }
     {
         if self.takes_symbol(expected) {
             Ok(())
@@ -140,7 +140,7 @@ impl<'a> Reader<'a> {
 
     /// An identifier of at most 255 bytes. Coq Reference Manual, "Lexical conventions".
     pub fn identifier(&mut self, alloc: Global) -> Result<Name, Fault>
-        ensures { Takes (λ s r x. SpellsIdentifier (after_blanks s) r x) (λ x. x) result self.old.rest.now self.new.rest.now }
+        ensures { ReadsOrLacks (λ s r x. SpellsIdentifier (after_blanks s) r x) (λ x. x) result self.old.rest.now self.new.rest.now }
     {
         let Some(word) = self.word() else {
             return Err(Fault::NoMatch);
@@ -155,7 +155,7 @@ impl<'a> Reader<'a> {
 
     /// The symbol `:`, where the longer `:=` does not stand.
     pub fn colon(&mut self) -> Result<(), Fault>
-        ensures { Takes (λ s r _. SpellsColon (after_blanks s) r) (λ u. u) result self.old.rest.now self.new.rest.now }
+        ensures { ReadsOrLacks (λ s r _. SpellsColon (after_blanks s) r) (λ u. u) result self.old.rest.now self.new.rest.now }
     {
         match after_blanks(self.rest) {
             [b':', rest @ ..] if rest.first() != Some(&b'=') => {
@@ -168,7 +168,7 @@ impl<'a> Reader<'a> {
 
     /// The dot that ends a sentence: a blank or the end of the source follows it.
     pub fn stop(&mut self) -> Result<(), Fault>
-        ensures { Takes (λ s r _. SpellsStop (after_blanks s) r) (λ u. u) result self.old.rest.now self.new.rest.now }
+        ensures { ReadsOrLacks (λ s r _. SpellsStop (after_blanks s) r) (λ u. u) result self.old.rest.now self.new.rest.now }
     {
         match after_blanks(self.rest) {
             [b'.', rest @ ..] if rest.first().is_none_or(|byte| is_blank(*byte)) => {

@@ -1,7 +1,8 @@
 //! Sentences and their terms, read from the tokens, and the whole source.
 
 ghost use Rattle.std.specs.Prelude.{◌≡◌, ◌≤◌, ◌<◌, ℕ, List, length, IfOk, OnOk};
-ghost use Rattle.gal_parser.specs.Answers.{Takes, SpellsBinding, TakesOrLeaves, TakesAll, OnNotYet};
+ghost use Rattle.gal_parser.specs.calls.Reading.{ReadsOrLacks, SpellsBinding, ReadsOrLeaves, ReadsAll};
+ghost use Rattle.gal_parser.specs.Answers.{OnNotYet};
 ghost use Rattle.gal_parser.specs.Grammar.{Sentence, SpellsTerm, SpellsAtom, SpellsSentence, Reads, NotYetAt};
 ghost use Rattle.gal_parser.specs.Views.{raw_term, sentence_of, sentences_of};
 
@@ -38,7 +39,7 @@ const DEEPEST_NESTING: u16 = 500;
 // A term. The room says how many terms may stand within one another, this one among them.
 #[cycle(terms)]
 fn term(alloc: Global, room: u16, reader: &mut Reader) -> Result<Raw, Fault>
-    ensures { Takes (SpellsTerm room) raw_term result reader.old.rest.now reader.new.rest.now }
+    ensures { ReadsOrLacks (SpellsTerm room) raw_term result reader.old.rest.now reader.new.rest.now }
 {
     if room == 0 {
         return Err(Fault::NoMatch);
@@ -57,7 +58,7 @@ fn term(alloc: Global, room: u16, reader: &mut Reader) -> Result<Raw, Fault>
 // What follows the word `forall`: the binder with its type, and the body.
 #[cycle(terms)]
 fn binding(alloc: Global, room: u16, reader: &mut Reader) -> Result<Raw, Fault>
-    ensures { Takes (SpellsBinding room) raw_term result reader.old.rest.now reader.new.rest.now }
+    ensures { ReadsOrLacks (SpellsBinding room) raw_term result reader.old.rest.now reader.new.rest.now }
 {
     let binder = reader.identifier(alloc)?;
     reader.colon()?;
@@ -74,7 +75,7 @@ fn binding(alloc: Global, room: u16, reader: &mut Reader) -> Result<Raw, Fault>
 // A term that needs no parentheses around it: a word, or a term that has them.
 #[cycle(terms)]
 fn atom(alloc: Global, room: u16, reader: &mut Reader) -> Result<Raw, Fault>
-    ensures { Takes (SpellsAtom room) raw_term result reader.old.rest.now reader.new.rest.now }
+    ensures { ReadsOrLacks (SpellsAtom room) raw_term result reader.old.rest.now reader.new.rest.now }
 {
     if reader.takes_keyword(b"Prop") {
         return Ok(Raw::Prop);
@@ -89,7 +90,7 @@ fn atom(alloc: Global, room: u16, reader: &mut Reader) -> Result<Raw, Fault>
 }
 
 fn sentence(alloc: Global, reader: &mut Reader) -> Result<Command, Fault>
-    ensures { Takes SpellsSentence sentence_of result reader.old.rest.now reader.new.rest.now }
+    ensures { ReadsOrLacks SpellsSentence sentence_of result reader.old.rest.now reader.new.rest.now }
 {
     reader.keyword(b"Axiom")?;
     let name = reader.identifier(alloc)?;
@@ -101,7 +102,7 @@ fn sentence(alloc: Global, reader: &mut Reader) -> Result<Command, Fault>
 
 // The next sentence, or nothing where none begins.
 fn next_sentence(alloc: Global, reader: &mut Reader) -> Result<Option<Command>, NoMemory>
-    ensures { IfOk result (λ o. TakesOrLeaves SpellsSentence sentence_of o reader.old.rest.now reader.new.rest.now) }
+    ensures { IfOk result (λ o. ReadsOrLeaves SpellsSentence sentence_of o reader.old.rest.now reader.new.rest.now) }
 {
     let start = reader.rest;
     match sentence(alloc, reader) {
@@ -116,7 +117,7 @@ fn next_sentence(alloc: Global, reader: &mut Reader) -> Result<Option<Command>, 
 
 // The sentences up to where none begins.
 fn sentences(alloc: Global, reader: &mut Reader) -> Result<Vec<Command>, NoMemory>
-    ensures { IfOk result (λ v. TakesAll reader.old.rest.now reader.new.rest.now (sentences_of v.items)) }
+    ensures { IfOk result (λ v. ReadsAll reader.old.rest.now reader.new.rest.now (sentences_of v.items)) }
 {
     let mut items = Vec::new(alloc);
     while let Some(command) = next_sentence(alloc, reader)? {

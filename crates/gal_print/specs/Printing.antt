@@ -4,10 +4,7 @@
 use Rattle.std.specs.Prelude.{ℕ, ◌+◌, ◌-◌, ◌≡◌, ◌≤◌, ◌<◌, ◌⊎◌, List, ◌++◌, codes, decimal}
 use Rattle.cic_terms.specs.Tree.{Tree, rel, node, Children, no_child, child, over, sort, prop, prod, const}
 use Rattle.cic_names.specs.declared.name.GlobalId.{GlobalId}
-
--- An id is printed as the library, a dot, and the name.
-abbrev pub id_text : GlobalId → List ℕ
-id_text id = id.lib ++ codes "." ++ id.name
+use Rattle.cic_names.specs.Texts.{id_text}
 
 -- Variable x is used in a term.
 abbrev mutual

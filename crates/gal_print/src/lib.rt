@@ -4,4 +4,4 @@
 
 mod printing;
 
-pub use printing::{print_id, print_term, terms_have_one_text};
+pub use printing::{print_term, push_number, push_part, terms_have_one_text};

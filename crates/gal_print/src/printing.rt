@@ -1,7 +1,8 @@
 ghost use Rattle.std.specs.Prelude.{◌≡◌, ◌+◌, ◌++◌, ◌↔◌, ℕ, List, IfOk, OnOk, IsTrue, codes, decimal, string_bytes};
+ghost use Rattle.cic_names.specs.Texts.{id_text};
 ghost use Rattle.cic_terms.specs.Denotes.{tree};
 ghost use Rattle.cic_terms.specs.Tree.{Tree, rel};
-ghost use Rattle.gal_print.specs.Printing.{id_text, Uses, IsProduct, HasText, Prints, PrintsLeft};
+ghost use Rattle.gal_print.specs.Printing.{Uses, IsProduct, HasText, Prints, PrintsLeft};
 ghost use Rattle.gal_print.specs.Appending.{Appends};
 
 use cic_names::{GlobalId, Sort};
@@ -9,26 +10,25 @@ use cic_terms::Term;
 use memory::NoMemory;
 
 /// Adds a part of a text.
-fn push_part(text: &mut String, part: &str) -> Result<(), NoMemory>
+pub fn push_part(text: &mut String, part: &str) -> Result<(), NoMemory>
     ensures { OnOk result (string_bytes text.new ≡ string_bytes text.old ++ part.now) }
 {
     Ok(text.push_str(part)?)
 }
 
-/// Adds a number.
-fn push_number(text: &mut String, number: u32) -> Result<(), NoMemory>
+/// Adds a number in decimal.
+pub fn push_number(text: &mut String, number: u32) -> Result<(), NoMemory>
     ensures { OnOk result (string_bytes text.new ≡ string_bytes text.old ++ decimal number) }
 {
     write!(text, "{number}").map_err(|_| NoMemory)
 }
 
-/// Adds an id: its library, a dot, and its name.
-pub fn print_id(text: &mut String, id: &GlobalId) -> Result<(), NoMemory>
+/// Adds an id.
+#[inline(never)]
+fn print_id(text: &mut String, id: &GlobalId) -> Result<(), NoMemory>
     ensures { OnOk result (string_bytes text.new ≡ string_bytes text.old ++ id_text id.now) }
 {
-    push_part(text, id.lib.text())?;
-    push_part(text, ".")?;
-    push_part(text, id.name.text())
+    write!(text, "{id}").map_err(|_| NoMemory)
 }
 
 /// The next number. There is no memory for a term that has use for one past 2^32.

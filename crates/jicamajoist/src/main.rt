@@ -11,10 +11,7 @@ use std::process::ExitCode;
 fn words(rt: &HostRuntime) -> Result<Words, NoMemory> {
     let alloc = rt.alloc();
     match env::args(rt) {
-        Ok(args) => match args.skip(1).collect(alloc) {
-            Ok(items) => Ok(Words::new(items)),
-            Err(_) => Err(NoMemory),
-        },
+        Ok(args) => Ok(Words::new(args.skip(1).collect(alloc)?)),
         Err(fault) if fault.kind() == ErrorKind::OutOfMemory => Err(NoMemory),
         // Where some argument is no text, none can be had and no word can be named. They are taken for no words
         // at all, of which word 1 is not understood.

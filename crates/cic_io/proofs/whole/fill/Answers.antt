@@ -2,7 +2,7 @@
 use Rattle.std.proofs.Common.{◌∙◌, ◌-◌, ◌≡◌, length, take, drop, arith}
 use Rattle.std.proofs.lemmas.List.{length-take, length-drop}
 use borrow.Rule.Slice.PartMut.{put_mid, same_len_mid}
-use Rattle.cic_io.proofs.Fronts.{WholeTold-more, Takes-more}
+use Rattle.cic_io.proofs.Fronts.{WholeTold-more, RisesBy-more}
 use Rattle.cic_io.proofs.whole.fill.Goals as goal
 
 pub loop-read-preserved : goal.loop-read-preserved
@@ -23,5 +23,5 @@ loop-read-preserved g c =
           before.within (omega arith) before.told (rw files at read.told);
       quiet = read.quiet ∙ before.quiet;
       files = read.files ∙ before.files;
-      taken = Takes-more _ _ _ _ _ before.taken read.taken;
+      taken = RisesBy-more _ _ _ _ _ before.taken read.taken;
     }

@@ -1,7 +1,7 @@
 -- Each word that is missing or wrong is the first that is not understood.
 use Rattle.std.proofs.Common.{map, string_bytes, subst, sym, ap, ◌∙◌}
 use Rattle.cic_top.specs.CommandLine.{CommandLine, FirstNotUnderstood}
-use Rattle.cic_top.specs.Reading.{IsLibraryOf}
+use Rattle.cic_top.specs.calls.Reading.{IsLibraryOf}
 use Rattle.cic_top.proofs.CommandLines.{is_coqc, is_not_coqc, nothing_given, wrong_command, nothing_after_coqc, two_given, wrong_source, word_too_many, all_given}
 use Rattle.cic_top.proofs.command_line.command.Goals as goal
 
@@ -30,7 +30,7 @@ returns-in-None c =
     let is = is_coqc c.as_str.result.now c.if-ne.ensures in
     let two = c.in-Some-get.ensures.lookup.3 in
     let given = two_given string_bytes _ c.in-Some.first.now c.in-Some-get.second.now some.0 some.1 two.0 two.1 (sym c.as_str.ensures.value ∙ is) in
-    let wrong = subst (λ found. IsLibraryOf found c.as_str-2.result.now) c.in-None.is c.in-Ok.ensures in
+    let wrong = subst (λ found. IsLibraryOf found c.as_str-2.result.now) c.in-None.is c.in_ok-library.ensures in
     subst (λ ws. FirstNotUnderstood ws 2) (ap (map string_bytes) c.as_slice-items.ensures.value ∙ c.words.view_is)
     (wrong_source string_bytes _ c.in-Some-get.second.now given (λ library name e. wrong library name (c.as_str-2.ensures.value ∙ e)))
 
@@ -40,7 +40,7 @@ returns-in-Some-library c =
     let is = is_coqc c.as_str.result.now c.if-ne.ensures in
     let two = c.in-Some-get.ensures.lookup.3 in
     let given = two_given string_bytes _ c.in-Some.first.now c.in-Some-get.second.now some.0 some.1 two.0 two.1 (sym c.as_str.ensures.value ∙ is) in
-    let found = subst (λ found. IsLibraryOf found c.as_str-2.result.now) c.in-Some-library.is c.in-Ok.ensures in
+    let found = subst (λ found. IsLibraryOf found c.as_str-2.result.now) c.in-Some-library.is c.in_ok-library.ensures in
     subst (λ ws. FirstNotUnderstood ws 3) (ap (map string_bytes) c.as_slice-items.ensures.value ∙ c.words.view_is)
     (word_too_many string_bytes _ c.in-Some-get.second.now c.in-Some-library.field-0 given found.0 (sym c.as_str-2.ensures.value ∙ found.1) c.if-items-gt2.true)
 
@@ -50,6 +50,6 @@ returns-in-Some-2 c =
     let is = is_coqc c.as_str.result.now c.if-ne.ensures in
     let two = c.in-Some-get.ensures.lookup.3 in
     let given = two_given string_bytes _ c.in-Some.first.now c.in-Some-get.second.now some.0 some.1 two.0 two.1 (sym c.as_str.ensures.value ∙ is) in
-    let found = subst (λ found. IsLibraryOf found c.as_str-2.result.now) c.in-Some-library.is c.in-Ok.ensures in
+    let found = subst (λ found. IsLibraryOf found c.as_str-2.result.now) c.in-Some-library.is c.in_ok-library.ensures in
     subst (λ ws. CommandLine ws c.in-Some-library.field-0) (ap (map string_bytes) c.as_slice-items.ensures.value ∙ c.words.view_is)
     (all_given string_bytes _ c.in-Some-get.second.now c.in-Some-library.field-0 given found.0 (sym c.as_str-2.ensures.value ∙ found.1) c.if-items-gt2.false)

@@ -9,7 +9,7 @@ use Rattle.gal_elab.specs.Scoping.{Declares}
 use Rattle.gal_parser.specs.Grammar.{Sentence}
 use Rattle.gal_parser.specs.Views.{raw_term}
 use Rattle.gal_print.proofs.Printed.{where_true, where_false}
-use Rattle.cic_top.specs.Compiling.{DeclaresOrRefuses, AddsOrRefuses}
+use Rattle.cic_top.specs.calls.Compiling.{DeclaresOrRefuses, AddsOrRefuses}
 use Rattle.cic_top.proofs.Sentences.{adds_or_refuses, duplicate_refuses, unknown_refuses}
 use Rattle.cic_top.proofs.Compilations.{stands_of_language}
 use Rattle.cic_top.proofs.compiling.run_sentence.Goals as goal

@@ -1,7 +1,7 @@
 -- The text of a cause is made of what it names.
 use Rattle.std.proofs.Common.{ap}
 use Rattle.cic_terms.specs.Denotes.{tree}
-use Rattle.cic_kernel.specs.Verdicts.{cause_of}
+use Rattle.cic_work.specs.Verdicts.{cause_of}
 use Rattle.gal_print.proofs.Printed.{on_ok_more}
 use Rattle.cic_top.proofs.Printed.{not_sort_has_text, not_sort_appended, cause_is}
 use Rattle.cic_top.proofs.printing.push_cause.Goals as goal

@@ -2,7 +2,7 @@
 use Rattle.std.proofs.Common.{◌≡◌, ◌++◌}
 use Rattle.std.specs.String.{string_bytes}
 use Rattle.cic_top.specs.Texts.{lines_text}
-use Rattle.cic_top.specs.Lines.{lines_of}
+use Rattle.cic_top.specs.calls.Lines.{lines_of}
 use Rattle.cic_top.proofs.printing.push_lines.Given as goal
 
 abbrev pub invariant-loop-id : goal.invariant-loop-id

@@ -1,16 +1,16 @@
 -- What is not there is told by its id or its number.
 use Rattle.std.proofs.Common.{ap}
-use Rattle.cic_kernel.specs.Verdicts.{missing_of}
+use Rattle.cic_work.specs.Verdicts.{missing_of}
 use Rattle.gal_print.proofs.Printed.{on_ok_more}
 use Rattle.cic_top.proofs.Printed.{unbound_id_appended, unbound_variable_appended}
 use Rattle.cic_top.proofs.printing.push_unbound.Goals as goal
 
-pub returns-in_ok-print_id-in-Global : goal.returns-in_ok-print_id-in-Global
-returns-in_ok-print_id-in-Global c =
-    on_ok_more c.push_part.result c.push_part.ensures
-    (unbound_id_appended (missing_of c.args.what.now) _ _ _ _ (ap missing_of c.in-Global.is) c.in_ok-print_id-in-Global.ensures)
-
 pub returns-in_ok-push_number-in-Local : goal.returns-in_ok-push_number-in-Local
 returns-in_ok-push_number-in-Local c =
-    on_ok_more c.push_part-in-Local-2.result c.push_part-in-Local-2.ensures
+    on_ok_more c.push_part-in-Local.result c.push_part-in-Local.ensures
     (unbound_variable_appended (missing_of c.args.what.now) _ _ _ _ _ (ap missing_of c.in-Local.is) c.in_ok-push_part-in-Local.ensures c.in_ok-push_number-in-Local.ensures)
+
+pub returns-in-Global : goal.returns-in-Global
+returns-in-Global c =
+    on_ok_more c.push_unbound_id.result c.push_unbound_id.ensures
+    (unbound_id_appended (missing_of c.args.what.now) _ _ _ (ap missing_of c.in-Global.is))

@@ -3,8 +3,8 @@ use Rattle.std.proofs.lemmas.Result.{err_from_is_err_and}
 use Rattle.std.specs.Prelude.{Some}
 use Rattle.cic_env.specs.Environments.{items}
 use Rattle.gal_parser.specs.Views.{raw_term}
-use Rattle.gal_elab.specs.Resolving.{put, resolve}
-use Rattle.gal_elab.specs.Answers.{Resolves, levels_in}
+use Rattle.gal_elab.specs.calls.Resolving.{put, resolve}
+use Rattle.gal_elab.specs.calls.LookingUp.{Resolves, levels_in}
 use Rattle.gal_elab.proofs.Levelled.{put_back}
 use Rattle.gal_elab.proofs.Resolutions.{tells_left, tells_product, ok_product}
 use Rattle.gal_elab.proofs.elaborating.+walk.Goals as goal

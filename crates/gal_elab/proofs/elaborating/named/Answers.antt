@@ -1,6 +1,6 @@
 use Rattle.std.proofs.Common.{sym, ap, ◌∙◌}
 use Rattle.cic_env.specs.Environments.{items}
-use Rattle.gal_elab.specs.Resolving.{resolve_name}
+use Rattle.gal_elab.specs.calls.Resolving.{resolve_name}
 use Rattle.gal_elab.proofs.Resolutions.{declared_is_found, undeclared_is_unknown}
 use Rattle.gal_elab.proofs.elaborating.named.Goals as goal
 

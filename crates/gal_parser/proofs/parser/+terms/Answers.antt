@@ -5,7 +5,7 @@ use Rattle.std.proofs.lemmas.Result.{err_from_is_err_and}
 use Rattle.std.specs.Prelude.{codes}
 use Rattle.gal_parser.specs.Tokens.{after_blanks, SpellsIdentifier, SpellsSymbol}
 use Rattle.gal_parser.specs.Grammar.{arrow, SpellsTerm, spells_arrow, spells_atom, SpellsAtom, spells_prop, spells_name, spells_group}
-use Rattle.gal_parser.specs.Answers.{Takes, Lacks, spells_binding}
+use Rattle.gal_parser.specs.calls.Reading.{ReadsOrLacks, Lacks, spells_binding}
 use Rattle.gal_parser.specs.Views.{raw_term}
 use Rattle.gal_parser.proofs.GrammarLaws.{lacks_part}
 use Rattle.gal_parser.proofs.TermParts.{has_room, takes_binding, atom_of, target_of, colon_of, type_of, comma_of, body_of, inner_of, closing_of, name_of}
@@ -73,7 +73,7 @@ binding-returns t c = rw (c.binder.view_is, c.in_ok-new.ensures.ok, c.in_ok-new-
 
 pub term-returns-then-takes_keyword : goal.term-returns-then-takes_keyword
 term-returns-then-takes_keyword t c =
-    subst (λ n. Takes (SpellsTerm n) raw_term c.binding.result c.args.reader.now.rest.now c.binding.new.reader.rest.now) (has_room c.args.room c.if-room-eq0.false)
+    subst (λ n. ReadsOrLacks (SpellsTerm n) raw_term c.binding.result c.args.reader.now.rest.now c.binding.new.reader.rest.now) (has_room c.args.room c.if-room-eq0.false)
     (takes_binding (c.args.room - 1) raw_term c.binding.result _ _ _ c.if-takes_keyword.ensures c.binding.ensures)
 
 pub term-returns-in_err-from : goal.term-returns-in_err-from

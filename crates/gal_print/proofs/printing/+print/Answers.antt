@@ -2,7 +2,8 @@ use Rattle.std.proofs.Common.{ap, ap₂, ◌∙◌, sym, codes, subst}
 use Rattle.cic_terms.specs.Tree.{sort, prop, prod}
 use Rattle.cic_terms.specs.Denotes.{tree}
 use Rattle.cic_terms.specs.declared.term.Term.{Term}
-use Rattle.gal_print.specs.Printing.{Uses, Prints, prints_prop, prints_constant, id_text}
+use Rattle.cic_names.specs.Texts.{id_text}
+use Rattle.gal_print.specs.Printing.{Uses, Prints, prints_prop, prints_constant}
 use Rattle.gal_print.proofs.Printed.{on_ok_more, appended, appends_at, where_true, where_false, in_parentheses_appended, as_it_is_appended, product_appended, arrow_appended, printed_sort}
 use Rattle.gal_print.proofs.printing.+print.Goals as goal
 

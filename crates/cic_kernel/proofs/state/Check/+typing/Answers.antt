@@ -3,8 +3,8 @@ use Rattle.std.proofs.lemmas.Result.{err_from_is_err_and}
 use Rattle.cic_terms.specs.Denotes.{tree_sort}
 use Rattle.cic_terms.specs.Tree.{prop}
 use Rattle.cic_counted.specs.Outcome.{done}
-use Rattle.cic_kernel.specs.Counting.{left}
-use Rattle.cic_kernel.specs.State.{types_of}
+use Rattle.cic_kernel.specs.Accepting.{left}
+use Rattle.cic_kernel.specs.calls.State.{types_of}
 use Rattle.cic_kernel.proofs.Depths.{stops_on, infer_is, infer_entered, sort_is, sort_entered, sort_inferred, sort_evaluated}
 use Rattle.cic_kernel.proofs.TypesOfTerms.{calls_keep_from}
 use Rattle.cic_kernel.proofs.state.Check.+typing.Goals as goal

@@ -1,8 +1,8 @@
 use Rattle.std.proofs.Common.{◌≡◌, Some, length, ap, sym, ◌∙◌, arith}
 use Rattle.cic_terms.specs.Denotes.{tree}
 use Rattle.cic_rules.specs.Environment.{type_at}
-use Rattle.cic_kernel.specs.Counting.{shared_tree}
-use Rattle.cic_kernel.specs.State.{context_of}
+use Rattle.cic_kernel.specs.calls.Counting.{shared_tree}
+use Rattle.cic_kernel.specs.calls.State.{context_of}
 use Rattle.cic_kernel.proofs.Lookups.{innermost_is_last}
 use Rattle.cic_kernel.proofs.state.Check.type_of_variable.Goals as goal
 

@@ -2,8 +2,8 @@ use Rattle.std.proofs.Common.{◌∙◌, ap}
 use Rattle.std.proofs.lemmas.Result.{err_from_is_err_and}
 use Rattle.cic_terms.specs.Denotes.{tree}
 use Rattle.cic_counted.specs.Outcome.{follow, give}
-use Rattle.cic_kernel.specs.Counting.{left}
-use Rattle.cic_kernel.specs.State.{environment_of, types_of}
+use Rattle.cic_kernel.specs.Accepting.{left}
+use Rattle.cic_kernel.specs.calls.State.{environment_of, types_of}
 use Rattle.cic_kernel.proofs.Depths.{stops_on}
 use Rattle.cic_kernel.proofs.Evaluation.{whnf_is_itself}
 use Rattle.cic_kernel.proofs.state.Check.whnf.Goals as goal

@@ -2,7 +2,7 @@
 use Rattle.std.specs.Prelude.{ℕ, List, [], ◌≡◌, map, string_bytes}
 use Rattle.std.specs.declared.string.String.{String}
 use Rattle.std.specs.declared.alloc.Global.{Global}
-use Rattle.cic_rules.specs.Environment.{Environment}
+use Rattle.cic_rules.specs.Environment.{Environment, Item, declared, axiom_of}
 use Rattle.cic_counted.specs.Outcome.{Cause}
 use Rattle.cic_top.specs.Refusals.{Refusal}
 use Rattle.cic_top.specs.Texts.{IsCauseText, AxiomLine, AxiomLines, insert_lines, IsRefusalLine}
@@ -10,6 +10,11 @@ use Rattle.cic_top.specs.Texts.{IsCauseText, AxiomLine, AxiomLines, insert_lines
 -- The cause of a refusal is one that is told.
 abbrev pub HasCauseText : Cause → Type 0
 HasCauseText cause = (text : List ℕ) × IsCauseText cause text
+
+-- The item is an axiom.
+abbrev pub IsAxiom : Item → Type 0
+IsAxiom (declared (axiom_of id type)) = Unit {0}
+IsAxiom item = ⊥
 
 -- The environment has axioms alone, whose types are printed.
 abbrev pub HasAxiomLines : Environment → Type 0

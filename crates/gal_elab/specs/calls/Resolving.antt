@@ -1,5 +1,5 @@
 -- How names are looked up by level: the level of a binder is the number of binders outside it. What is
--- found so is what `Scoping` says, which `proofs/` shows; a reader need not believe this file.
+-- found so is what `Scoping` says, which `proofs/` shows.
 use Rattle.std.specs.Prelude.{ℕ, ◌+◌, ◌-◌, Bool, true, false, ◌||◌, cond, nat_eq, List, [], ◌∷◌, Option, Some, None}
 use Rattle.std.specs.Cmp.Lexicographic.{pointwise}
 use Rattle.cic_terms.specs.Tree.{Tree, rel, sort, prop, prod, const}

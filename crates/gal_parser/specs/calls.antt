@@ -1,0 +1,2 @@
+-- What the calls that read the parts of a source answer.
+pub mod Reading
