@@ -1,5 +1,5 @@
 -- Lifting, and putting a term in for a Rel.
-use Rattle.std.specs.Prelude.{ℕ, ◌+◌, ◌-◌, ◌<◌, ◌≤◌, if◌then◌else◌, ltb, eqb}
+use Rattle.std.specs.Prelude.{ℕ, ◌+◌, ◌-◌, if◌then◌else◌, ltb, eqb}
 use Rattle.cic_terms.specs.Tree.{Tree, rel, node, Children, no_child, child, over}
 
 -- `by` is added to each free Rel at or above `from`.

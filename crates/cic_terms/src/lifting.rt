@@ -64,6 +64,20 @@ pub fn lift(alloc: Global, t: &Term, from: u32, by: u32) -> Result<Term, TermFau
 pub fn lift_shared(alloc: Global, t: &Rc<Term>, from: u32, by: u32) -> Result<Rc<Term>, TermFault>
     ensures { MakesShared 4000 (lift_tree from by (tree t.now.value)) result }
 {
-    let lifted = lift_at(alloc, t, from, by, ROOM)?;
+    lift_part(alloc, t, from, by, ROOM)
+}
+
+/// `lift_shared` of a part for which `room` levels are left.
+#[inline(never)]
+pub fn lift_part(
+    alloc: Global,
+    t: &Rc<Term>,
+    from: u32,
+    by: u32,
+    room: u32,
+) -> Result<Rc<Term>, TermFault>
+    ensures { MakesShared room (lift_tree from by (tree t.now.value)) result }
+{
+    let lifted = lift_at(alloc, t, from, by, room)?;
     part(t, lifted)
 }

@@ -1,9 +1,9 @@
 //! Terms made of parts that a change gave anew or left as they are.
 ghost use Rattle.std.specs.Prelude.{◌≡◌, IfOk, OnErr, Err};
-ghost use Rattle.cic_terms.specs.calls.Kinds.{IsLet, IsCase};
-ghost use Rattle.cic_terms.specs.calls.Answer.{after, branches_after, bodies_after, let_after, case_after};
+ghost use Rattle.cic_terms.specs.calls.Kinds.{IsPair, IsLet, IsCase};
+ghost use Rattle.cic_terms.specs.calls.Answer.{after, branches_after, bodies_after, pair_after, let_after, case_after};
 ghost use Rattle.cic_terms.specs.Denotes.{tree, branches, bodies, shapes};
-ghost use Rattle.cic_terms.specs.Tree.{rel, prod, lam, app, fix};
+ghost use Rattle.cic_terms.specs.Tree.{rel, fix};
 
 use crate::copying::share;
 use crate::term::{Branches, FixBodies, Term, TermFault, copy_id, shared};
@@ -45,97 +45,46 @@ pub(crate) fn make_rel(alloc: Global, n: u32) -> Result<Rc<Term>, TermFault>
     shared(alloc, Term::Rel(n))
 }
 
+/// The product, abstraction or application with its new parts, or nothing where there are none.
 #[inline(always)]
-pub(crate) fn make_prod(
+pub(crate) fn make_pair(
     alloc: Global,
-    a: &Rc<Term>,
-    b: &Rc<Term>,
-    new_a: Option<Rc<Term>>,
-    new_b: Option<Rc<Term>>,
+    t: &Term,
+    new_first: Option<Rc<Term>>,
+    new_second: Option<Rc<Term>>,
 ) -> Result<Option<Rc<Term>>, TermFault>
-    ensures ok { IfOk result (λ r. after (prod (tree a.now.value) (tree b.now.value)) r ≡ prod (after (tree a.now.value) new_a) (after (tree b.now.value) new_b)) }
+    requires { IsPair t.now }
+    ensures ok { IfOk result (λ r. after (tree t.now) r ≡ pair_after t.now new_first new_second) }
     ensures err { OnErr result (result ≡ Err TermFault.NoMemory) }
 {
-    if new_a.is_none() && new_b.is_none() {
+    if new_first.is_none() && new_second.is_none() {
         return Ok(None);
     }
-    new_prod(alloc, a, b, new_a, new_b)
+    new_pair(alloc, t, new_first, new_second)
 }
 
 #[inline(never)]
-fn new_prod(
+fn new_pair(
     alloc: Global,
-    a: &Rc<Term>,
-    b: &Rc<Term>,
-    new_a: Option<Rc<Term>>,
-    new_b: Option<Rc<Term>>,
+    t: &Term,
+    new_first: Option<Rc<Term>>,
+    new_second: Option<Rc<Term>>,
 ) -> Result<Option<Rc<Term>>, TermFault>
-    ensures ok { IfOk result (λ r. after (prod (tree a.now.value) (tree b.now.value)) r ≡ prod (after (tree a.now.value) new_a) (after (tree b.now.value) new_b)) }
+    requires { IsPair t.now }
+    ensures ok { IfOk result (λ r. after (tree t.now) r ≡ pair_after t.now new_first new_second) }
     ensures err { OnErr result (result ≡ Err TermFault.NoMemory) }
 {
-    Ok(Some(shared(alloc, Term::Prod(part(a, new_a)?, part(b, new_b)?))?))
-}
-
-#[inline(always)]
-pub(crate) fn make_lam(
-    alloc: Global,
-    a: &Rc<Term>,
-    b: &Rc<Term>,
-    new_a: Option<Rc<Term>>,
-    new_b: Option<Rc<Term>>,
-) -> Result<Option<Rc<Term>>, TermFault>
-    ensures ok { IfOk result (λ r. after (lam (tree a.now.value) (tree b.now.value)) r ≡ lam (after (tree a.now.value) new_a) (after (tree b.now.value) new_b)) }
-    ensures err { OnErr result (result ≡ Err TermFault.NoMemory) }
-{
-    if new_a.is_none() && new_b.is_none() {
-        return Ok(None);
-    }
-    new_lam(alloc, a, b, new_a, new_b)
-}
-
-#[inline(never)]
-fn new_lam(
-    alloc: Global,
-    a: &Rc<Term>,
-    b: &Rc<Term>,
-    new_a: Option<Rc<Term>>,
-    new_b: Option<Rc<Term>>,
-) -> Result<Option<Rc<Term>>, TermFault>
-    ensures ok { IfOk result (λ r. after (lam (tree a.now.value) (tree b.now.value)) r ≡ lam (after (tree a.now.value) new_a) (after (tree b.now.value) new_b)) }
-    ensures err { OnErr result (result ≡ Err TermFault.NoMemory) }
-{
-    Ok(Some(shared(alloc, Term::Lam(part(a, new_a)?, part(b, new_b)?))?))
-}
-
-#[inline(always)]
-pub(crate) fn make_app(
-    alloc: Global,
-    f: &Rc<Term>,
-    x: &Rc<Term>,
-    new_f: Option<Rc<Term>>,
-    new_x: Option<Rc<Term>>,
-) -> Result<Option<Rc<Term>>, TermFault>
-    ensures ok { IfOk result (λ r. after (app (tree f.now.value) (tree x.now.value)) r ≡ app (after (tree f.now.value) new_f) (after (tree x.now.value) new_x)) }
-    ensures err { OnErr result (result ≡ Err TermFault.NoMemory) }
-{
-    if new_f.is_none() && new_x.is_none() {
-        return Ok(None);
-    }
-    new_app(alloc, f, x, new_f, new_x)
-}
-
-#[inline(never)]
-fn new_app(
-    alloc: Global,
-    f: &Rc<Term>,
-    x: &Rc<Term>,
-    new_f: Option<Rc<Term>>,
-    new_x: Option<Rc<Term>>,
-) -> Result<Option<Rc<Term>>, TermFault>
-    ensures ok { IfOk result (λ r. after (app (tree f.now.value) (tree x.now.value)) r ≡ app (after (tree f.now.value) new_f) (after (tree x.now.value) new_x)) }
-    ensures err { OnErr result (result ≡ Err TermFault.NoMemory) }
-{
-    Ok(Some(shared(alloc, Term::App(part(f, new_f)?, part(x, new_x)?))?))
+    let (Term::Prod(first, second) | Term::Lam(first, second) | Term::App(first, second)) = t else {
+        unreachable!()
+    };
+    let first = part(first, new_first)?;
+    let second = part(second, new_second)?;
+    let made = match t {
+        Term::Prod(..) => Term::Prod(first, second),
+        Term::Lam(..) => Term::Lam(first, second),
+        _ => Term::App(first, second),
+    };
+    Ok(Some(shared(alloc, made)?))
 }
 
 /// The `let` with its new parts, or nothing where there are none.

@@ -5,21 +5,12 @@ ghost use Rattle.cic_terms.specs.calls.Answer.{Makes, MakesShared, Changes};
 ghost use Rattle.cic_terms.specs.Tree.{rel};
 ghost use Rattle.cic_terms.specs.Lift.{lift_tree, subst_tree};
 
-use crate::lifting::lift_at;
+use crate::lifting::lift_part;
 use crate::sharing::{make_rel, part, taken};
 use crate::term::{Term, TermFault, shared};
 use crate::walking::{Action, MOST, ROOM, walk_at};
 use std::alloc::Global;
 use std::rc::Rc;
-
-/// `with`, lifted over the `n` binders that it is put under.
-#[inline(never)]
-fn put_in(alloc: Global, with: &Rc<Term>, n: u32, room: u32) -> Result<Rc<Term>, TermFault>
-    ensures { MakesShared room (lift_tree 0 n (tree with.now.value)) result }
-{
-    let lifted = lift_at(alloc, with, 0, n, room)?;
-    part(with, lifted)
-}
 
 /// `with` is put in for the first free Rel, and the others are lowered.
 #[derive(Drop)]
@@ -38,7 +29,7 @@ impl<'a> Action for PutIn<'a> {
         room: u32,
     ) -> Result<Option<Rc<Term>>, TermFault> {
         if u128::from(n) == at {
-            return Ok(Some(put_in(alloc, self.with, n, room)?));
+            return Ok(Some(lift_part(alloc, self.with, 0, n, room)?));
         }
         if n - 1 > MOST {
             return Err(TermFault::Deep);

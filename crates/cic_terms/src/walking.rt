@@ -1,13 +1,13 @@
 //! One walk over a term, which does an action at each free Rel. Lifting and substitution are such walks.
 ghost use Rattle.std.specs.Prelude.{ℕ, IsTrue, ◌≡◌, ◌+◌, ◌*◌, ◌^◌, ◌≤◌, ◌<◌, ◌∷◌, [], ◌++◌, length, take};
 ghost use Rattle.cic_terms.specs.Denotes.{tree, branches, bodies, terms, shapes, shape, body_parts, tree_sort};
-ghost use Rattle.cic_terms.specs.calls.Kinds.{IsLet, IsCase, IsFix};
+ghost use Rattle.cic_terms.specs.calls.Kinds.{IsPair, IsLet, IsCase, IsFix, second_binders};
 ghost use Rattle.cic_terms.specs.calls.Answer.{MakesChildren, MakesBody, MakesBodies, MakesShared, Changes, branches_after, terms_after};
-ghost use Rattle.cic_terms.specs.Tree.{Tree, rel};
+ghost use Rattle.cic_terms.specs.Tree.{Tree, rel, over};
 ghost use Rattle.cic_terms.specs.calls.Walk.{map_tree, map_children, StaysAsItIs};
 
 use crate::gathering::{add_body, discard, more_branches, more_terms, whole_bodies};
-use crate::sharing::{make_app, make_case, make_fix, make_lam, make_let, make_prod, part};
+use crate::sharing::{make_case, make_fix, make_let, make_pair, part};
 use crate::term::{Branches, FixBodies, FixBody, Term, TermFault, Terms, shared};
 use std::alloc::Global;
 use std::rc::Rc;
@@ -125,25 +125,37 @@ pub(crate) fn walk_at<A: Action>(
     match t {
         Term::Rel(n) => walk_rel(alloc, *n, at, action, room),
         Term::Sort(_) | Term::Const(_) | Term::Ind(_) | Term::Ctor(_) => Ok(None),
-        Term::Prod(a, b) => {
-            let new_a = walk_under(alloc, a, at, action, room - 1)?;
-            let new_b = walk_under(alloc, b, at + 1, action, room - 1)?;
-            make_prod(alloc, a, b, new_a, new_b)
-        }
-        Term::Lam(a, b) => {
-            let new_a = walk_under(alloc, a, at, action, room - 1)?;
-            let new_b = walk_under(alloc, b, at + 1, action, room - 1)?;
-            make_lam(alloc, a, b, new_a, new_b)
-        }
+        Term::Prod(..) | Term::Lam(..) => walk_pair(alloc, t, at, at + 1, action, room),
+        Term::App(..) => walk_pair(alloc, t, at, at, action, room),
         Term::Let { .. } => walk_let(alloc, t, at, action, room),
-        Term::App(f, x) => {
-            let new_f = walk_under(alloc, f, at, action, room - 1)?;
-            let new_x = walk_under(alloc, x, at, action, room - 1)?;
-            make_app(alloc, f, x, new_f, new_x)
-        }
         Term::Case { .. } => walk_case(alloc, t, at, action, room),
         Term::Fix { .. } => walk_fix(alloc, t, at, action, room),
     }
+}
+
+/// `walk_at` in a product, an abstraction or an application. `inner` is the place of the second part.
+#[cycle(walk)]
+#[inline(always)]
+fn walk_pair<A: Action>(
+    alloc: Global,
+    t: &Term,
+    at: u128,
+    inner: u128,
+    action: &A,
+    room: u32,
+) -> Result<Option<Rc<Term>>, TermFault>
+    requires is_pair { IsPair t.now }
+    requires room { 1 ≤ room }
+    requires inner { inner ≡ over (second_binders t.now) at }
+    requires place { at + room * 2 ^ 66 < 2 ^ 127 }
+    ensures { Changes room (tree t.now) (map_tree (A.becomes action.now) at (tree t.now)) result }
+{
+    let (Term::Prod(first, second) | Term::Lam(first, second) | Term::App(first, second)) = t else {
+        unreachable!()
+    };
+    let new_first = walk_under(alloc, first, at, action, room - 1)?;
+    let new_second = walk_under(alloc, second, inner, action, room - 1)?;
+    make_pair(alloc, t, new_first, new_second)
 }
 
 /// `walk_at` in a `let`.

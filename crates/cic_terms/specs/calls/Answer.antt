@@ -1,13 +1,13 @@
 -- What a call that makes a term answers.
 use Rattle.std.specs.Prelude.{ℕ, ◌+◌, List, [], ◌∷◌, ◌++◌, length, take, Vec, Option, None, Some, Result, IfOk, IfErr, OnOk, ◌≡◌, ◌⊎◌}
-use Rattle.cic_terms.specs.Tree.{Tree, Children, let_in, case, join}
+use Rattle.cic_terms.specs.Tree.{Tree, Children, prod, lam, app, let_in, case, join}
 use Rattle.cic_terms.specs.Sizes.{Fits, ChildrenFit}
 use Rattle.cic_terms.specs.Mentions.{Mentions, ChildrenMention}
 use Rattle.cic_names.specs.declared.name.GlobalId.{GlobalId}
 use Rattle.cic_terms.specs.Denotes.{tree, branches, bodies, terms, shapes, shape, shape_list, body_list}
 use Rattle.std.specs.declared.rc.Rc.{Rc}
 use Rattle.std.specs.declared.alloc.Global.{Global}
-use Rattle.cic_terms.specs.declared.term.Term.{Term, Let', Case'}
+use Rattle.cic_terms.specs.declared.term.Term.{Term, Prod', Lam', App', Let', Case'}
 use Rattle.cic_terms.specs.declared.term.Terms.{Terms}
 use Rattle.cic_terms.specs.declared.term.Branches.{Branches}
 use Rattle.cic_terms.specs.declared.term.FixBodies.{FixBodies}
@@ -57,6 +57,13 @@ terms_after old (Some new) = terms new
 abbrev pub branches_after : Branches → Option (Rc Branches Global) → Children
 branches_after old None = branches old
 branches_after old (Some new) = branches new.value
+
+-- the tree of a product, an abstraction or an application after a change of its parts
+abbrev pub pair_after : Term → (new_first new_second : Option (Rc Term Global)) → Tree
+pair_after (Prod' _ a _ b) new_first new_second = prod (after (tree a) new_first) (after (tree b) new_second)
+pair_after (Lam' _ a _ b) new_first new_second = lam (after (tree a) new_first) (after (tree b) new_second)
+pair_after (App' _ f _ x) new_first new_second = app (after (tree f) new_first) (after (tree x) new_second)
+pair_after t new_first new_second = tree t
 
 -- the tree of a let after a change of its parts, and that of a match
 abbrev pub let_after : Term → (new_body new_ty new_rest : Option (Rc Term Global)) → Tree

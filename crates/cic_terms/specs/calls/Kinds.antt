@@ -1,5 +1,18 @@
 -- Which kind of term a term is.
-use Rattle.cic_terms.specs.declared.term.Term.{Term, Let', Case', Fix'}
+use Rattle.cic_terms.specs.declared.term.Term.{Term, Prod', Lam', App', Let', Case', Fix'}
+use Rattle.cic_terms.specs.Tree.{Binders, none, one}
+
+-- A term of two parts: a product, an abstraction or an application.
+abbrev pub IsPair : Term → Type 0
+IsPair (Prod' _ a _ b) = Unit {0}
+IsPair (Lam' _ a _ b) = Unit {0}
+IsPair (App' _ f _ x) = Unit {0}
+IsPair t = ⊥
+
+-- The binders that the second part of such a term stands under.
+abbrev pub second_binders : Term → Binders
+second_binders (App' _ f _ x) = none
+second_binders t = one
 
 -- A `let`.
 abbrev pub IsLet : Term → Type 0

@@ -135,18 +135,6 @@ walk_all_terms-returns-in-Some g t c =
 pub walk_at-returns-then-room-eq0 : goal.walk_at-returns-then-room-eq0
 walk_at-returns-then-room-eq0 g t c = record { ok = tt; fits = tt; deep = λ d. rw c.if-room-eq0.true (no_room _) }
 
-pub walk_at-returns-in_err-new_b-in-Prod : goal.walk_at-returns-in_err-new_b-in-Prod
-walk_at-returns-in_err-new_b-in-Prod g t c =
-    let p = err_from_is_err_and c.from_residual-in_err-new_b-in-Prod.result c.from_residual-in_err-new_b-in-Prod.ensures.1 in
-    let never = rw c.deref-in-Prod.ensures at (c.in_err-new_b-in-Prod.ensures.deep) in
-    rw (p.1, p.2, c.in-Prod.is) (record { ok = tt; fits = tt; deep = λ d h. never d (second_fits _ _ _ _ _ _ _ c.if-room-eq0.false h) })
-
-pub walk_at-returns-in_err-new_b-in-Lam : goal.walk_at-returns-in_err-new_b-in-Lam
-walk_at-returns-in_err-new_b-in-Lam g t c =
-    let p = err_from_is_err_and c.from_residual-in_err-new_b-in-Lam.result c.from_residual-in_err-new_b-in-Lam.ensures.1 in
-    let never = rw c.deref-in-Lam-2.ensures at (c.in_err-new_b-in-Lam.ensures.deep) in
-    rw (p.1, p.2, c.in-Lam.is) (record { ok = tt; fits = tt; deep = λ d h. never d (second_fits _ _ _ _ _ _ _ c.if-room-eq0.false h) })
-
 pub walk_let-returns-in_err-new_ty : goal.walk_let-returns-in_err-new_ty
 walk_let-returns-in_err-new_ty g t c =
     let p = err_from_is_err_and c.from_residual-in_err-new_ty.result c.from_residual-in_err-new_ty.ensures.1 in
