@@ -1,3 +1,3 @@
 pub mod Walks
 pub mod ShapeLemmas
-pub mod Occurs
+pub mod OccurringIds

@@ -8,5 +8,7 @@ mod positivities;
 mod products;
 mod shapes;
 
+pub use occurrences::{is_among, is_applied_among, occurs, occurs_behind};
 pub use positivities::{Positivity, positive};
+pub use products::{conclusion, under_products};
 pub use shapes::{Shape, shaped};

@@ -12,7 +12,7 @@ use cic_spines::head;
 use cic_terms::{Term, mentions};
 
 /// Whether the id of one of the types stands in the term.
-fn occurs(types: &[IndType], t: &Term) -> bool
+pub fn occurs(types: &[IndType], t: &Term) -> bool
     ensures { result ≡ occurs (ids_of types.now) (tree t.now) }
 {
     for ty in types {
@@ -23,7 +23,8 @@ fn occurs(types: &[IndType], t: &Term) -> bool
     false
 }
 
-fn is_among(id: &GlobalId, types: &[IndType]) -> bool
+/// Whether the id is that of one of the types.
+pub fn is_among(id: &GlobalId, types: &[IndType]) -> bool
     ensures { result ≡ is_among id.now (ids_of types.now) }
 {
     for ty in types {
@@ -58,7 +59,7 @@ fn under_arguments(count: u32, t: &Term) -> &Term
 }
 
 /// Whether one of the types occurs in an argument of the application behind the first `count`.
-pub(crate) fn occurs_behind(types: &[IndType], count: u32, t: &Term) -> bool
+pub fn occurs_behind(types: &[IndType], count: u32, t: &Term) -> bool
     ensures { result ≡ occurs_in_any (ids_of types.now) (drop count (arguments_of (tree t.now))) }
 {
     let mut at = t;
@@ -76,7 +77,8 @@ pub(crate) fn occurs_behind(types: &[IndType], count: u32, t: &Term) -> bool
     false
 }
 
-fn is_applied_among(types: &[IndType], t: &Term) -> bool
+/// Whether the term is one of the types applied to terms in which none of them occurs.
+pub fn is_applied_among(types: &[IndType], t: &Term) -> bool
     ensures { result ≡ is_applied_among (ids_of types.now) (tree t.now) }
 {
     is_type_among(types, head(t)) && !occurs_behind(types, 0, t)

@@ -7,7 +7,7 @@ ghost use Rattle.cic_positivity.specs.calls.Parts.{begins_alike};
 use cic_terms::{Term, same};
 
 /// What stands after the last product.
-pub(crate) fn conclusion(t: &Term) -> &Term
+pub fn conclusion(t: &Term) -> &Term
     ensures { tree result.now ≡ conclusion_of (tree t.now) }
 {
     let mut at = t;
@@ -31,7 +31,7 @@ pub(crate) fn product_count(t: &Term) -> u64
 }
 
 /// What stands under the first `count` products, or under all where there are fewer.
-pub(crate) fn under_products(count: u32, t: &Term) -> &Term
+pub fn under_products(count: u32, t: &Term) -> &Term
     ensures { domains_of (tree result.now) ≡ drop count (domains_of (tree t.now)) }
 {
     let mut at = t;

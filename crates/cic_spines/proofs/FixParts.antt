@@ -58,7 +58,7 @@ shapes_are (b ∷ bs) = ap₂ ◌∷◌ (ap (shape_of b.k) (length-map b.domains
 all_parts_are : (bs : List FixBody) → function_parts (length (map function_of bs)) (map function_of bs) ≡ body_list (length bs) bs
 all_parts_are bs = ap (λ n. function_parts n (map function_of bs)) (length-map bs function_of) ∙ parts_are (length bs) bs
 
-functions_are : (bs : List FixBody) (ss : List Shape) (ks : Children) → ss ≡ shape_list bs → ks ≡ body_list (length bs) bs →
+pub functions_are : (bs : List FixBody) (ss : List Shape) (ks : Children) → ss ≡ shape_list bs → ks ≡ body_list (length bs) bs →
     functions_of ss ks ≡ Some (map function_of bs)
 functions_are bs ss ks e f =
     ap₂ functions_of (e ∙ sym (shapes_are bs)) (f ∙ sym (all_parts_are bs)) ∙ functions_of-parts (map function_of bs)
@@ -193,10 +193,10 @@ trees_of_list : (above : ℕ) (ts : List Term) → trees_of (term_list above ts)
 trees_of_list above [] = refl
 trees_of_list above (t ∷ ts) = ap (λ z. tree t ∷ z) (trees_of_list (above + 1) ts)
 
-same_trees : (ts us : List Term) → term_list 0 ts ≡ term_list 0 us → map tree ts ≡ map tree us
+pub same_trees : (ts us : List Term) → term_list 0 ts ≡ term_list 0 us → map tree ts ≡ map tree us
 same_trees ts us e = sym (trees_of_list 0 ts) ∙ ap trees_of e ∙ trees_of_list 0 us
 
-same_length : (ts us : List Term) → term_list 0 ts ≡ term_list 0 us → length ts ≡ length us
+pub same_length : (ts us : List Term) → term_list 0 ts ≡ term_list 0 us → length ts ≡ length us
 same_length ts us e = sym (length-map ts tree) ∙ ap length (same_trees ts us e) ∙ length-map us tree
 
 lift_by_none : (t : Tree) → lift_tree 0 0 t ≡ t

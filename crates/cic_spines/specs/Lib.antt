@@ -1,4 +1,5 @@
 pub mod Lists
 pub mod Optional
+pub mod Several
 pub mod Fixes
 pub mod calls

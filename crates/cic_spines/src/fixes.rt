@@ -9,8 +9,8 @@ ghost use Rattle.cic_spines.specs.calls.Unfoldings.{each_fix, body_with, full_bo
 ghost use Rattle.cic_spines.specs.Lists.{shared_tree, shared_trees};
 ghost use Rattle.cic_spines.specs.Optional.{MakesIfAny};
 
-use crate::several::{PutIn, lifted};
-use cic_terms::{FixBodies, FixBody, MOST_LEVELS, Term, TermFault, walk_shared};
+use crate::several::PutIn;
+use cic_terms::{FixBodies, FixBody, MOST_LEVELS, Term, TermFault, lift_shared, walk_shared};
 use memory::NoMemory;
 use std::alloc::Global;
 use std::rc::Rc;
@@ -70,11 +70,15 @@ fn unfold_with(alloc: Global, one: &FixBody, fixes: &[Rc<Term>]) -> Result<Rc<Te
         MOST_LEVELS,
     )?;
     let whole = abstracted(alloc, domains, body)?;
-    lifted(alloc, &whole, 0, MOST_LEVELS)
+    lift_shared(alloc, &whole, 0, 0)
 }
 
 /// The body under abstractions over the domains. Its depth is not judged.
-fn abstracted(alloc: Global, domains: &[Term], body: Rc<Term>) -> Result<Rc<Term>, NoMemory>
+pub(crate) fn abstracted(
+    alloc: Global,
+    domains: &[Term],
+    body: Rc<Term>,
+) -> Result<Rc<Term>, NoMemory>
     ensures { IfOk result (λ r. shared_tree r ≡ abstractions (map tree domains.now) (shared_tree body)) }
 {
     let mut whole = body;

@@ -4,10 +4,12 @@
 mod applications;
 mod branches;
 mod fixes;
+mod functions;
 pub mod laws;
 mod several;
 
 pub use applications::{apply, argument_count, arguments, head};
 pub use branches::branch_result;
 pub use fixes::unfolded;
-pub use several::substitute_all;
+pub use functions::{full_body, function_type};
+pub use several::{substitute_all, substitute_part};

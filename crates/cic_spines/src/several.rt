@@ -1,43 +1,16 @@
 //! Terms put in for several binders at once.
 ghost use Rattle.std.specs.Prelude.{◌≡◌, ◌+◌, ◌-◌, ◌≤◌, IfOk, OnErr, Err};
 ghost use Rattle.cic_terms.specs.calls.Answer.{Changes, MakesShared};
+ghost use Rattle.cic_terms.specs.calls.Walk.{map_tree};
 ghost use Rattle.cic_terms.specs.Denotes.{tree};
-ghost use Rattle.cic_terms.specs.Lift.{lift_tree};
 ghost use Rattle.cic_terms.specs.Tree.{rel};
 ghost use Rattle.cic_rules.specs.Telescopes.{substitute_all};
 ghost use Rattle.cic_spines.specs.Lists.{shared_tree, shared_trees};
 ghost use Rattle.cic_spines.specs.calls.Several.{several};
 
-use cic_terms::{Action, MOST_LEVELS, MOST_REL, Term, TermFault, walk_shared};
+use cic_terms::{Action, MOST_LEVELS, MOST_REL, Term, TermFault, lift_part, walk_shared};
 use std::alloc::Global;
 use std::rc::Rc;
-
-/// `by` is added to each free Rel.
-#[derive(Drop)]
-struct Raise {
-    by: u32,
-}
-
-impl Action for Raise {
-    ghost becomes = { λ action at n. rel (n + action.by) };
-
-    fn act(
-        &self,
-        alloc: Global,
-        n: u32,
-        _at: u128,
-        _room: u32,
-    ) -> Result<Option<Rc<Term>>, TermFault> {
-        if n > MOST_REL {
-            return Err(TermFault::Deep);
-        }
-        match self.by {
-            0 => Ok(None),
-            by if by > MOST_REL - n => Err(TermFault::Deep),
-            by => Ok(Some(variable(alloc, n + by)?)),
-        }
-    }
-}
 
 #[inline(never)]
 fn variable(alloc: Global, n: u32) -> Result<Rc<Term>, TermFault>
@@ -45,14 +18,6 @@ fn variable(alloc: Global, n: u32) -> Result<Rc<Term>, TermFault>
     ensures err { OnErr result (result ≡ Err TermFault.NoMemory) }
 {
     Ok(Rc::new(alloc, Term::Rel(n))?)
-}
-
-/// The term lifted past `by` binders, where `room` levels are left for it.
-#[inline(never)]
-pub(crate) fn lifted(alloc: Global, t: &Rc<Term>, by: u32, room: u32) -> Result<Rc<Term>, TermFault>
-    ensures { MakesShared room (lift_tree 0 by (shared_tree t.now)) result }
-{
-    walk_shared(alloc, t, 0, &Raise { by }, room)
 }
 
 /// Terms are put in for as many binders, the first for the outermost, and the other variables are lowered.
@@ -75,7 +40,7 @@ impl<'a> Action for PutIn<'a> {
         let inner = n - at as u32;
         if (inner as usize) < count {
             let term = &self.terms[count - 1 - inner as usize];
-            return Ok(Some(lifted(alloc, term, at as u32, room)?));
+            return Ok(Some(lift_part(alloc, term, 0, at as u32, room)?));
         }
         lowered(alloc, n, count as u32, room)
     }
@@ -106,4 +71,17 @@ pub fn substitute_all(
     ensures { MakesShared 4000 (substitute_all (shared_trees terms.now) (shared_tree t.now)) result }
 {
     walk_shared(alloc, t, 0, &PutIn { terms }, MOST_LEVELS)
+}
+
+/// `substitute_all` in a part that stands under `under` binders of the term, where `room` levels are left for it.
+pub fn substitute_part(
+    alloc: Global,
+    t: &Rc<Term>,
+    under: u32,
+    terms: &[Rc<Term>],
+    room: u32,
+) -> Result<Rc<Term>, TermFault>
+    ensures { MakesShared room (map_tree (several (shared_trees terms.now)) under (shared_tree t.now)) result }
+{
+    walk_shared(alloc, t, under, &PutIn { terms }, room)
 }

@@ -3,7 +3,7 @@ use Rattle.cic_terms.specs.Denotes.{tree}
 use Rattle.cic_terms.proofs.Children.{drop_at, drop_whole}
 use Rattle.cic_counted.specs.BlockTests.{occurs}
 use Rattle.cic_positivity.specs.calls.Parts.{ids_of}
-use Rattle.cic_positivity.proofs.Occurs.{occurs_none, occurs_here, occurs_else}
+use Rattle.cic_positivity.proofs.OccurringIds.{occurs_none, occurs_here, occurs_else}
 use Rattle.cic_positivity.proofs.occurrences.occurs.Goals as goal
 
 pub returns-then-mentions : goal.returns-then-mentions

@@ -6,7 +6,7 @@ use Rattle.cic_terms.specs.Denotes.{tree}
 use Rattle.cic_counted.specs.Readings.{arguments_of}
 use Rattle.cic_counted.specs.BlockTests.{occurs, occurs_in_any}
 use Rattle.cic_positivity.specs.calls.Parts.{ids_of}
-use Rattle.cic_positivity.proofs.Occurs.{behind_push}
+use Rattle.cic_positivity.proofs.OccurringIds.{behind_push}
 use Rattle.cic_positivity.proofs.occurrences.occurs_behind.Goals as goal
 
 pub returns-then-occurs : goal.returns-then-occurs

@@ -23,6 +23,6 @@ pub returns : goal.returns
 returns c =
     let cloned = ap tree c.in_ok-body.ensures.ok ∙ c.in_ok-clone.ensures.cases in
     let put_in = body_is (shared_trees c.args.fixes.now) c.args.one.now c.as_slice-domains.result.now (shared_tree c.in_ok-body.body) c.as_slice-domains.ensures cloned in
-    subst (λ want. MakesShared 4000 want c.lifted.result)
+    subst (λ want. MakesShared 4000 want c.lift_shared.result)
     (whole_is (shared_trees c.args.fixes.now) c.args.one.now c.as_slice-domains.result.now (shared_tree c.in_ok-whole.whole) (shared_tree c.in_ok-body-2.body) c.as_slice-domains.ensures c.in_ok-whole.ensures (c.in_ok-body-2.ensures.ok ∙ put_in))
-    c.lifted.ensures
+    c.lift_shared.ensures
