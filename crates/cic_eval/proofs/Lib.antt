@@ -1,4 +1,3 @@
-pub mod Binders
 pub mod Limits
 pub mod Loops
 pub mod Recursion

@@ -1,7 +1,7 @@
 use Rattle.std.proofs.Common.{◌≡◌, drop}
 use Rattle.cic_counted.specs.Evaluation.{atoms_below}
 use Rattle.cic_work.specs.calls.Counting.{budget}
-use Rattle.cic_eval.proofs.sorts.atoms_below.Given as goal
+use Rattle.cic_conv.proofs.sorts.atoms_below.Given as goal
 
 abbrev pub invariant-loop-atom : goal.invariant-loop-atom
 invariant-loop-atom l = record {

@@ -2,7 +2,7 @@ use Rattle.std.proofs.Common.{◌≡◌, ◌↔◌, Bool, true, false, true≢fa
 use Rattle.std.specs.Prelude.{IsTrue}
 use Rattle.cic_terms.specs.Denotes.{tree}
 use Rattle.cic_counted.proofs.Decided.{same_tree_decides}
-use Rattle.cic_eval.proofs.comparing.same_terms.Goals as goal
+use Rattle.cic_conv.proofs.comparing.same_terms.Goals as goal
 
 same_test : {A : Type 0} (p q : Bool) → (IsTrue p ↔ A) → ((q ≡ true) ↔ A) → p ≡ q
 same_test true q f g = sym (g.1 (f.0 refl))

@@ -1,16 +1,16 @@
 //! Sorts that are made equal, and a sort that is at most another. Coq Reference Manual, "Subtyping rules".
-ghost use Rattle.std.specs.Prelude.{◌≡◌, ◌≤◌, IfOk, false, if◌then◌else◌, None, Some};
+ghost use Rattle.std.specs.Prelude.{◌≡◌, IfOk, false, if◌then◌else◌, length, None, Some};
 ghost use Rattle.std.specs.Option.{option_map};
 ghost use Rattle.cic_names.specs.Sameness.{same_atoms};
-ghost use Rattle.cic_terms.specs.Denotes.{tree, tree_sort};
+ghost use Rattle.cic_terms.specs.Denotes.{tree_sort};
 ghost use Rattle.cic_terms.specs.Tree.{sort, typ};
 ghost use Rattle.cic_rules.specs.Numbering.{plain_level};
 ghost use Rattle.cic_counted.specs.Evaluation.{atoms_below, equal_levels, equal_sorts, levels_at_most, sorts_at_most};
-ghost use Rattle.cic_counted.specs.Outcome.{follow, give, note, universe_form};
+ghost use Rattle.cic_counted.specs.Outcome.{follow, give, mismatch, note, universe_form};
 ghost use Rattle.cic_env.specs.Contexts.{context};
 ghost use Rattle.cic_work.specs.Verdicts.{cause_of};
 ghost use Rattle.cic_work.specs.calls.Counting.{Counts, StopsWith, budget, no_value};
-ghost use Rattle.cic_eval.specs.calls.Sorts.{IsSort, bound, sort_in};
+ghost use Rattle.cic_conv.specs.calls.Sorts.{bound};
 
 use crate::comparing::differ;
 use cic_env::{Cause, Context};
@@ -104,25 +104,44 @@ fn equal_exprs(alloc: Global, e: &Expr, f: &Expr, work: &mut Work) -> Result<(),
     }
 }
 
-/// Two sorts, which the terms are, are made equal: two plain levels by two constraints.
+/// Two sorts that are not alike, as terms.
+fn mismatch(alloc: Global, ctx: &Context, a: &Sort, b: &Sort) -> Result<Stop, NoMemory>
+    ensures { IfOk result (λ stop. StopsWith stop (mismatch (length (context ctx.now)) (sort (tree_sort a.now)) (sort (tree_sort b.now)))) }
+{
+    let found = Term::Sort(a.clone()?);
+    let wanted = Term::Sort(b.clone()?);
+    Ok(differ(alloc, ctx, &found, &wanted))
+}
+
+/// The refusal of two sorts that are not alike.
+#[inline(never)]
+fn sorts_differ(alloc: Global, ctx: &Context, a: &Sort, b: &Sort) -> Stop
+    ensures { StopsWith result (mismatch (length (context ctx.now)) (sort (tree_sort a.now)) (sort (tree_sort b.now))) }
+{
+    match mismatch(alloc, ctx, a, b) {
+        Ok(stop) => stop,
+        Err(_) => Stop::NoMemory,
+    }
+}
+
+/// Two sorts are made equal: two plain levels by two constraints.
 #[inline(never)]
 pub(crate) fn equal_sorts(
     alloc: Global,
     ctx: &Context,
-    a: &Term,
-    b: &Term,
+    a: &Sort,
+    b: &Sort,
     work: &mut Work,
 ) -> Result<(), Stop>
-    requires { IsSort a.now × IsSort b.now }
-    ensures answer { Counts no_value result (budget work.new) (equal_sorts (context ctx.now) (sort_in a.now) (sort_in b.now) (budget work.old)) }
+    ensures answer { Counts no_value result (budget work.new) (equal_sorts (context ctx.now) (tree_sort a.now) (tree_sort b.now) (budget work.old)) }
     ensures depth { work.new.depth ≡ work.old.depth }
     ensures rest { work.new.rest ≡ work.old.rest }
 {
     match (a, b) {
-        (Term::Sort(Sort::Prop), Term::Sort(Sort::Prop)) => Ok(()),
-        (Term::Sort(Sort::Set), Term::Sort(Sort::Set)) => Ok(()),
-        (Term::Sort(Sort::Typ(e)), Term::Sort(Sort::Typ(f))) => equal_exprs(alloc, e, f, work),
-        _ => Err(differ(alloc, ctx, a, b)),
+        (Sort::Prop, Sort::Prop) => Ok(()),
+        (Sort::Set, Sort::Set) => Ok(()),
+        (Sort::Typ(e), Sort::Typ(f)) => equal_exprs(alloc, e, f, work),
+        _ => Err(sorts_differ(alloc, ctx, a, b)),
     }
 }
 
@@ -154,25 +173,24 @@ fn exprs_at_most(alloc: Global, e: &Expr, f: &Expr, work: &mut Work) -> Result<(
     }
 }
 
-/// A sort, which the first term is, is at most another, which the second is.
+/// A sort is at most another, under the constraints that are found. It is no counted call.
 #[inline(never)]
-pub(crate) fn sorts_at_most(
+pub fn sorts_at_most(
     alloc: Global,
     ctx: &Context,
-    a: &Term,
-    b: &Term,
+    a: &Sort,
+    b: &Sort,
     work: &mut Work,
 ) -> Result<(), Stop>
-    requires { IsSort a.now × IsSort b.now }
-    ensures answer { Counts no_value result (budget work.new) (sorts_at_most (context ctx.now) (sort_in a.now) (sort_in b.now) (budget work.old)) }
+    ensures answer { Counts no_value result (budget work.new) (sorts_at_most (context ctx.now) (tree_sort a.now) (tree_sort b.now) (budget work.old)) }
     ensures depth { work.new.depth ≡ work.old.depth }
     ensures rest { work.new.rest ≡ work.old.rest }
 {
     match (a, b) {
-        (Term::Sort(Sort::Prop), Term::Sort(_)) => Ok(()),
-        (Term::Sort(Sort::Set), Term::Sort(Sort::Set)) => Ok(()),
-        (Term::Sort(Sort::Set), Term::Sort(Sort::Typ(_))) => Ok(()),
-        (Term::Sort(Sort::Typ(e)), Term::Sort(Sort::Typ(f))) => exprs_at_most(alloc, e, f, work),
-        _ => Err(differ(alloc, ctx, a, b)),
+        (Sort::Prop, _) => Ok(()),
+        (Sort::Set, Sort::Set) => Ok(()),
+        (Sort::Set, Sort::Typ(_)) => Ok(()),
+        (Sort::Typ(e), Sort::Typ(f)) => exprs_at_most(alloc, e, f, work),
+        _ => Err(sorts_differ(alloc, ctx, a, b)),
     }
 }
