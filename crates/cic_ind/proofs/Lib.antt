@@ -1,0 +1,5 @@
+pub mod Codomains
+pub mod Kept
+pub mod Judged
+pub mod Motives
+pub mod Asked

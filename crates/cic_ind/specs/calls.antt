@@ -1,0 +1,3 @@
+-- Words that connect the definitions with the code.
+pub mod Pending
+pub mod Goals
