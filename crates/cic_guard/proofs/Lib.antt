@@ -1,0 +1,4 @@
+pub mod Binders
+pub mod Depths
+pub mod Functions
+pub mod Parts

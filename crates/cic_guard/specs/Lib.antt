@@ -1,3 +1,2 @@
-pub mod Denotes
-pub mod Marks
+pub mod Faults
 pub mod calls

@@ -1,15 +1,11 @@
-//! The guard of fixpoints: what is known of smaller terms, read off declared types as written.
+//! The guard of fixpoints: every call of a function of a `fix` has a smaller recursive argument.
 #![tactic(auto)]
 
-mod branches;
-mod comparing;
-pub mod laws;
-mod marks;
-mod rows;
-mod types;
+mod arguments;
+mod bodies;
+mod guarding;
+mod mark_row;
+mod smaller;
+mod walking;
 
-pub use branches::recursive_marks;
-pub use comparing::{is_of_shape, same_shape};
-pub use marks::{Mark, constructor_marks, under_shapes};
-pub use rows::{ShapeRow, TypeShape};
-pub use types::shape_of_type;
+pub use guarding::{Unguarded, guarded};

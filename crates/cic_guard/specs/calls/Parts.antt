@@ -1,19 +1,13 @@
--- The arms of the shape of a type, as the functions that make them up take them.
-use Rattle.std.specs.Prelude.{ℕ, Bool, true, false, Option, None, List}
-use Rattle.cic_names.specs.declared.name.GlobalId.{GlobalId}
-use Rattle.cic_terms.specs.Tree.{Tree}
-use Rattle.cic_rules.specs.Environment.{Environment}
-use Rattle.cic_rules.specs.Shapes.{GuardShape, GuardShapes, no_more, unshaped, shape_at, shape_of_type}
+-- Marks as the code looks them up.
+use Rattle.std.specs.Prelude.{ℕ, Option, Some, None}
+use Rattle.cic_rules.specs.Guard.{Mark, plain, function}
 
-abbrev pub is_empty : GuardShapes → Bool
-is_empty no_more = true
-is_empty _ = false
+-- A mark that was looked up, where none is found of a plain variable.
+abbrev pub mark_or_plain : Option Mark → Mark
+mark_or_plain None = plain
+mark_or_plain (Some m) = m
 
--- The shape of a variable, and that of a product by its codomain, under arguments.
-abbrev pub shape_of_variable : (variables arguments : GuardShapes) → ℕ → Option GuardShape
-shape_of_variable variables no_more x = shape_at variables x
-shape_of_variable variables _ x = None
-
-abbrev pub shape_of_codomain : Environment → (own : List GlobalId) → (variables arguments : GuardShapes) → Tree → Option GuardShape
-shape_of_codomain E own variables no_more b = shape_of_type E own (unshaped variables) no_more b
-shape_of_codomain E own variables _ b = None
+-- The function that a variable with this mark is.
+abbrev pub function_of_mark : Mark → Option ℕ
+function_of_mark (function j) = Some j
+function_of_mark m = None

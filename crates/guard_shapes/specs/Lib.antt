@@ -1,0 +1,3 @@
+pub mod Denotes
+pub mod Marks
+pub mod calls

@@ -1,0 +1,2 @@
+-- Words that connect the definitions with the code.
+pub mod Parts
