@@ -1,0 +1,3 @@
+-- Words that state contracts of the parts of typing.
+pub mod Matches
+pub mod Parts
