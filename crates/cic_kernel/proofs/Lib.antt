@@ -1,7 +1,2 @@
-pub mod Depths
-pub mod Lookups
-pub mod Evaluation
-pub mod TypesOfTerms
-pub mod Declarations
-pub mod Causes
+pub mod NewIds
 pub mod Judgement

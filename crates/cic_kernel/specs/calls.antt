@@ -1,3 +1,2 @@
--- What the calls of a check answer, and the state that they share.
-pub mod Counting
-pub mod State
+-- Words that state contracts of the parts of the check.
+pub mod Judging

@@ -8,11 +8,12 @@ use Rattle.cic_rules.specs.Numbering.{Numbering}
 use Rattle.cic_rules.specs.Formed.{Distinct, Formed, nothing_declared}
 use Rattle.cic_counted.specs.Outcome.{Cause, Stopped, refused, spent, deep, unbound, global, local, not_sort}
 use Rattle.cic_counted.specs.Checking.{rejects, check_declaration}
-use Rattle.cic_kernel.specs.Language.{TermOfLanguage, EnvironmentOfLanguage, CauseOfLanguage}
-use Rattle.cic_kernel.proofs.Lookups.{environment_of_language_grows}
-use Rattle.cic_kernel.proofs.Causes.{refused_for_cause_of_language}
-use Rattle.cic_kernel.proofs.Judgement.{accepted_axioms_are_formed}
-use Rattle.cic_top.proofs.Distinctness.{distinct_with_new}
+use Rattle.cic_top.specs.Language.{TermOfLanguage, EnvironmentOfLanguage, CauseOfLanguage}
+use Rattle.cic_top.proofs.language.Lookups.{environment_of_language_grows}
+use Rattle.cic_top.proofs.language.Causes.{refused_for_cause_of_language}
+use Rattle.cic_top.proofs.language.Declarations.{accepted_axioms_are_formed}
+use Rattle.cic_env.proofs.Newness.{new-one}
+use Rattle.cic_kernel.proofs.NewIds.{distinct_with_declaration}
 use Rattle.gal_parser.specs.Grammar.{RawTerm, Sentence}
 use Rattle.gal_elab.specs.Scoping.{Binders, id_of, StandsFor, prop_stands, variable_stands, constant_stands, for_all_stands, arrow_stands}
 use Rattle.gal_print.specs.Printing.{HasText, prop_has_text, variable_has_text, constant_has_text, product_has_text, Prints}
@@ -94,7 +95,7 @@ refused-has_line compiles = outcome_has_lines compiles
 adds_formed : (N : Numbering) {library : List ℕ} {E E' : Environment} {s : Sentence} → EnvironmentOfLanguage E → Formed N E → Distinct (environment_ids E) → Adds library E s E' →
     Formed N E' × Distinct (environment_ids E')
 adds_formed N {library = library} {E = E} h formed apart (adds_axiom {name = name} {type = type} new stands accepted) =
-    let distinct = distinct_with_new E (id_of library name) type apart new in
+    let distinct = distinct_with_declaration E (axiom_of (id_of library name) type) apart (new-one (environment_ids E) (id_of library name) new) in
     (accepted_axioms_are_formed E N (axiom_of (id_of library name) type) default_budget _ h (stands_of_language stands) formed distinct accepted, distinct)
 
 abbrev OutcomeIsFormed : Numbering → Compiled → Type 0

@@ -8,4 +8,4 @@ pub mod FoundSources
 pub mod Printed
 pub mod Answered
 pub mod Promises
-pub mod Distinctness
+pub mod language

@@ -6,4 +6,5 @@ pub mod Texts
 pub mod Command
 pub mod Runs
 pub mod Formed
+pub mod Language
 pub mod calls

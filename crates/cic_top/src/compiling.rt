@@ -8,7 +8,6 @@ ghost use Rattle.cic_terms.specs.Denotes.{tree};
 ghost use Rattle.gal_parser.specs.Grammar.{axiom_sentence};
 ghost use Rattle.gal_parser.specs.Views.{raw_term, sentence_of, sentences_of};
 ghost use Rattle.cic_top.specs.CommandLine.{IsName, source_name};
-ghost use Rattle.cic_kernel.specs.Language.{TermOfLanguage, IsOfLanguage, EnvironmentOfLanguage};
 ghost use Rattle.cic_top.specs.Refusals.{duplicate, not_yet};
 ghost use Rattle.gal_elab.specs.Scoping.{Declares, id_of};
 ghost use Rattle.cic_top.specs.Views.{refusal_of};
@@ -76,8 +75,7 @@ fn duplicate(name: &Name) -> Stop
 
 /// Checks a declaration of the id, within the budget.
 fn judge(alloc: Global, env: &mut Env, decl: &Decl, id: GlobalId) -> Result<(), Stop>
-    requires language { IsOfLanguage (declaration decl.now) }
-    requires environment { EnvironmentOfLanguage (items env.old) }
+    requires { AreNew (environment_ids (items env.old)) (declared_ids (declaration decl.now)) }
     ensures verdict { PassesOrRefuses (items env.old) id (declaration decl.now) result }
     ensures same { items env.new ≡ items env.old }
 {
@@ -107,9 +105,7 @@ fn add(env: &mut Env, decl: Decl) -> Result<(), NoMemory>
 
 /// Checks and adds an axiom whose id is new.
 fn declare(alloc: Global, env: &mut Env, id: GlobalId, ty: Term) -> Result<(), Stop>
-    requires new { ¬ Declares (items env.old) id }
-    requires language { TermOfLanguage (tree ty) }
-    requires environment { EnvironmentOfLanguage (items env.old) }
+    requires { ¬ Declares (items env.old) id }
     ensures { DeclaresOrRefuses (items env.old) id (tree ty) result (items env.new) }
 {
     let decl = Decl::Axiom {
@@ -130,7 +126,6 @@ fn axiom_parts(command: &Command) -> (&Name, &Raw)
 
 /// Runs one sentence of the library.
 fn run_sentence(alloc: Global, library: &Name, env: &mut Env, command: &Command) -> Result<(), Stop>
-    requires { EnvironmentOfLanguage (items env.old) }
     ensures { AddsOrRefuses library.now (items env.old) (sentence_of command.now) result (items env.new) }
 {
     let (name, ty) = axiom_parts(command);
@@ -169,7 +164,6 @@ fn run_sentences(
     env: &mut Env,
     commands: &[Command],
 ) -> Result<(), Stop>
-    requires { EnvironmentOfLanguage (items env.old) }
     ensures { RunsOrRefuses library.now (items env.old) (sentences_of commands.now) result (items env.new) }
 {
     for command in commands {

@@ -5,6 +5,7 @@
 mod answer;
 mod command_line;
 mod compiling;
+pub mod laws;
 mod printing;
 mod running;
 mod source;

@@ -11,7 +11,6 @@ use Rattle.gal_parser.specs.Views.{raw_term}
 use Rattle.gal_print.proofs.Printed.{where_true, where_false}
 use Rattle.cic_top.specs.calls.Compiling.{DeclaresOrRefuses, AddsOrRefuses}
 use Rattle.cic_top.proofs.Sentences.{adds_or_refuses, duplicate_refuses, unknown_refuses}
-use Rattle.cic_top.proofs.Compilations.{stands_of_language}
 use Rattle.cic_top.proofs.compiling.run_sentence.Goals as goal
 
 pub returns-then-declares : goal.returns-then-declares
@@ -27,9 +26,6 @@ returns-in_err-ty c =
     (subst (λ (s : Sentence). AddsOrRefuses c.args.library.now (items c.args.env.now) s (Err c.in_err-ty.field-0.0) (items c.args.env.now)) (sym c.axiom_parts.ensures)
     (unknown_refuses c.args.library.now c.axiom_parts.result.0.now (raw_term c.axiom_parts.result.1.now) (items c.args.env.now) (items c.args.env.now) c.in_err-ty.field-0.0
     (subst (λ (id : GlobalId). ¬ Declares (items c.args.env.now) id) c.in_ok-id.ensures (where_false _ c.if-declares.false c.declares.ensures)) c.in_err-ty.ensures))
-
-pub declare-requires-clause-language : goal.declare-requires-clause-language
-declare-requires-clause-language c = stands_of_language c.in_ok-ty.ensures
 
 pub returns : goal.returns
 returns c =

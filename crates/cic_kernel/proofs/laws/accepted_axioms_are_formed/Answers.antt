@@ -1,5 +1,0 @@
-use Rattle.cic_kernel.proofs.Judgement.{accepted_axioms_are_formed}
-use Rattle.cic_kernel.proofs.laws.accepted_axioms_are_formed.Goals as goal
-
-pub returns : goal.returns
-returns c = accepted_axioms_are_formed

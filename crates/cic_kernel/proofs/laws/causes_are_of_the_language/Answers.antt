@@ -1,5 +1,0 @@
-use Rattle.cic_kernel.proofs.Causes.{refused_for_cause_of_language}
-use Rattle.cic_kernel.proofs.laws.causes_are_of_the_language.Goals as goal
-
-pub returns : goal.returns
-returns c = refused_for_cause_of_language

@@ -1,5 +1,0 @@
-use Rattle.cic_kernel.proofs.Declarations.{accepted_without_constraints}
-use Rattle.cic_kernel.proofs.laws.no_constraint_is_found.Goals as goal
-
-pub returns : goal.returns
-returns c = accepted_without_constraints
