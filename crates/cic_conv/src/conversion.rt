@@ -16,12 +16,12 @@ ghost use Rattle.cic_work.specs.calls.Counting.{Counts, budget, no_value};
 ghost use Rattle.cic_conv.specs.calls.Parts.{convert_body};
 
 use crate::comparing::{agree, differ, same_ids, same_terms};
-use crate::contexts::{enter_binders, leave_binders};
-use crate::made::{applied_to_variable, body_of, fitting_body, lifted, shared};
+use crate::made::{applied_to_variable, body_of};
 use crate::shapes::{same_matches, same_shapes};
 use crate::sorts::equal_sorts;
 use cic_env::{Context, Env};
 use cic_eval::whnf;
+use cic_limits::{enter_binders, fitting_body, leave, lifted, shared};
 use cic_spines::function_type;
 use cic_terms::{Branch, FixBody, Term};
 use cic_work::{Stop, Work};
@@ -30,7 +30,7 @@ use std::rc::Rc;
 
 /// A call one deeper, under so many binders more, of which nothing is known.
 #[cycle(conv)]
-#[tactic(auto, using(crate::proofs::Binders::drop_opened))]
+#[tactic(auto, using(cic_limits::proofs::Telescopes::drop_opened))]
 fn conv_under(
     alloc: Global,
     env: &Env,
@@ -50,7 +50,7 @@ fn conv_under(
     work.depth += 1;
     let answer = conv(alloc, env, ctx, a, b, work);
     work.depth -= 1;
-    leave_binders(ctx, count);
+    leave(ctx, count);
     answer
 }
 
@@ -355,7 +355,7 @@ fn conv_body_with(
     ensures depth { work.new.depth ≡ work.old.depth }
     ensures rest { work.new.rest ≤ work.old.rest }
 {
-    let function = lifted(alloc, w, work)?;
+    let function = lifted(alloc, w, 1, work)?;
     let applied = applied_to_variable(alloc, function)?;
     conv_under(alloc, env, ctx, 1, body, &applied, work)
 }
@@ -377,7 +377,7 @@ fn conv_with_body(
     ensures depth { work.new.depth ≡ work.old.depth }
     ensures rest { work.new.rest ≤ work.old.rest }
 {
-    let function = lifted(alloc, v, work)?;
+    let function = lifted(alloc, v, 1, work)?;
     let applied = applied_to_variable(alloc, function)?;
     conv_under(alloc, env, ctx, 1, &applied, body, work)
 }

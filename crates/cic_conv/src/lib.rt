@@ -12,7 +12,6 @@ macro_rules! deeper {
 }
 
 mod comparing;
-mod contexts;
 mod conversion;
 mod made;
 mod plain;

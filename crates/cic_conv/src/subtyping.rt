@@ -10,11 +10,11 @@ ghost use Rattle.cic_spines.specs.Lists.{shared_tree};
 ghost use Rattle.cic_work.specs.calls.Counting.{Counts, budget, no_value};
 
 use crate::comparing::same_terms;
-use crate::contexts::{enter_binders, leave_binders};
 use crate::conversion::{compare_heads, conv};
 use crate::sorts::sorts_at_most;
 use cic_env::{Context, Env};
 use cic_eval::whnf;
+use cic_limits::{enter_binders, leave};
 use cic_terms::Term;
 use cic_work::{Stop, Work};
 use std::alloc::Global;
@@ -40,7 +40,7 @@ fn cumul_under(
     work.depth += 1;
     let answer = cumul(alloc, env, ctx, a, b, work);
     work.depth -= 1;
-    leave_binders(ctx, 1);
+    leave(ctx, 1);
     answer
 }
 

@@ -1,6 +1,5 @@
 -- What a term that is made within the limits answers.
-use Rattle.std.proofs.Common.{◌≡◌, ◌≤◌, ℕ, true, false, Option, Some, None, Ok, Err, arith, refl, nat_le, ◌&&◌}
-use Rattle.std.proofs.lemmas.Bool.Decides.{nat_tests}
+use Rattle.std.proofs.Common.{◌≡◌, true, false, Option, Some, None, Ok, Err, refl}
 use Rattle.std.specs.declared.rc.Rc.{Rc}
 use Rattle.std.specs.declared.alloc.Global.{Global}
 use Rattle.memory.specs.Telling.{OrNoMemory}
@@ -8,7 +7,7 @@ use Rattle.cic_terms.specs.declared.term.Term.{Term}
 use Rattle.cic_terms.specs.declared.term.TermFault.{TermFault}
 use Rattle.cic_terms.specs.declared.term.TermFault.TheVariants as F
 use Rattle.cic_terms.specs.Tree.{Tree}
-use Rattle.cic_terms.specs.Sizes.{Fits, depth_tree, max_rel}
+use Rattle.cic_terms.specs.Sizes.{Fits}
 use Rattle.cic_rules.specs.Telescopes.{head_of}
 use Rattle.cic_counted.specs.Evaluation.{is_constructor, recursive_turn, reduce}
 use Rattle.cic_counted.specs.Outcome.{Budget, Counted, Stopped, is_small, fitting, follow, deep, done, tick}
@@ -16,19 +15,8 @@ use Rattle.cic_spines.specs.Lists.{shared_tree}
 use Rattle.cic_work.specs.Verdicts.{why, why_not}
 use Rattle.cic_work.specs.calls.Counting.{StopsFor}
 use Rattle.cic_work.specs.declared.stop.Stop.{Stop}
+use Rattle.cic_limits.proofs.Limits.{small, not_small}
 use Rattle.cic_eval.specs.calls.Turns.{IsJudged}
-
-both : (m n : ℕ) → m ≤ 4000 → n ≤ 1048576 → (nat_le m 4000 && nat_le n 1048576) ≡ true
-both m n h k = grind (arith, nat_tests)
-
-not_both : (m n : ℕ) → ¬ ((m ≤ 4000) × (n ≤ 1048576)) → (nat_le m 4000 && nat_le n 1048576) ≡ false
-not_both m n h = grind (arith, nat_tests)
-
-pub small : (t : Tree) → Fits 4000 t → is_small t ≡ true
-small t h = both (depth_tree t) (max_rel t) h.depth h.rels
-
-pub not_small : (t : Tree) → ¬ Fits 4000 t → is_small t ≡ false
-not_small t h = not_both (depth_tree t) (max_rel t) (λ p. h (record { depth = p.0; rels = p.1 }))
 
 pub made_small : (want : Tree) (made : Rc Term Global) → shared_tree made ≡ want → Fits 4000 want → IsJudged want (Ok made)
 made_small want made e h = (e, small want h)

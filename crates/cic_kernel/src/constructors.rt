@@ -12,9 +12,10 @@ ghost use Rattle.cic_env.specs.Environments.{items};
 ghost use Rattle.cic_work.specs.calls.Counting.{Counts, budget, no_value};
 
 use crate::faults::bad_constructor;
-use crate::telescopes::{assume, assume_domains, ending_sort};
+use crate::telescopes::ending_sort;
 use cic_conv::sorts_at_most;
 use cic_env::{Context, CtorDecl, Env, IndType};
+use cic_limits::{enter_products, push_assumed};
 use cic_names::Sort;
 use cic_terms::Term;
 use cic_typing::sort_of;
@@ -79,7 +80,7 @@ fn check_arguments<E: Evaluator>(
     let mut at = ty;
     while let Term::Prod(domain, rest) = at {
         check_argument(alloc, e, env, ctx, sort, domain, work)?;
-        assume(ctx, domain)?;
+        push_assumed(ctx, domain)?;
         at = rest;
     }
     let _sort = sort_of(alloc, e, env, ctx, at, work)?;
@@ -106,7 +107,7 @@ fn check_constructor<E: Evaluator>(
         return Err(bad_constructor(alloc, &ctor.id));
     };
     let mut ctx = Context::new(alloc);
-    let rest = assume_domains(&mut ctx, params, &ctor.ty)?;
+    let rest = enter_products(&mut ctx, params, &ctor.ty)?;
     check_arguments(alloc, e, env, &mut ctx, sort, rest, work)
 }
 

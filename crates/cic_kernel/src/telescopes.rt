@@ -1,24 +1,19 @@
-//! Products of types as written, and the contexts that they make.
-ghost use Rattle.std.specs.Prelude.{◌≡◌, ◌≤◌, ◌∷◌, [], IfOk, OnOk, take, drop};
+//! What arities end in, and their sorts.
+ghost use Rattle.std.specs.Prelude.{◌≡◌, ◌≤◌, []};
 ghost use Rattle.std.specs.Option.{option_map};
 ghost use Rattle.cic_terms.specs.Denotes.{tree, tree_sort};
-ghost use Rattle.cic_rules.specs.Environment.{assumed};
-ghost use Rattle.cic_rules.specs.Telescopes.{conclusion_of, domains_of, extend};
+ghost use Rattle.cic_rules.specs.Telescopes.{conclusion_of};
 ghost use Rattle.cic_counted.specs.Checking.{ending_sort};
 ghost use Rattle.cic_counted.specs.Inference.{calls_from};
-ghost use Rattle.cic_env.specs.Contexts.{context};
 ghost use Rattle.cic_env.specs.Environments.{items};
-ghost use Rattle.cic_spines.specs.Lists.{shared_tree};
 ghost use Rattle.cic_work.specs.calls.Counting.{Counts, budget};
 
-use cic_env::{Context, Env, Local};
+use cic_env::{Context, Env};
 use cic_names::Sort;
 use cic_terms::Term;
 use cic_typing::sort_of;
 use cic_work::{Evaluator, Stop, Work};
-use memory::NoMemory;
 use std::alloc::Global;
-use std::rc::Rc;
 
 /// The sort of a type without variables.
 pub(crate) fn closed_sort<E: Evaluator>(
@@ -56,37 +51,4 @@ pub(crate) fn ending_sort(arity: &Term) -> Option<&Sort>
         Term::Sort(sort) => Some(sort),
         _ => None,
     }
-}
-
-/// Assumes a variable of that type inside the others.
-#[inline(never)]
-pub(crate) fn assume(ctx: &mut Context, ty: &Rc<Term>) -> Result<(), NoMemory>
-    ensures { OnOk result (context ctx.new ≡ assumed (shared_tree ty.now) ∷ context ctx.old) }
-{
-    let entry = Local {
-        ty: Some(ty.clone()?),
-        body: None,
-    };
-    Ok(ctx.push(entry)?)
-}
-
-/// Assumes variables of the first `count` domains, or of all where there are fewer, and gives what stands under these products.
-pub(crate) fn assume_domains<'a>(
-    ctx: &mut Context,
-    count: u32,
-    ty: &'a Term,
-) -> Result<&'a Term, NoMemory>
-    ensures assumed { OnOk result (context ctx.new ≡ extend (context ctx.old) (take count (domains_of (tree ty.now)))) }
-    ensures domains { IfOk result (λ rest. domains_of (tree rest.now) ≡ drop count (domains_of (tree ty.now))) }
-    ensures conclusion { IfOk result (λ rest. conclusion_of (tree rest.now) ≡ conclusion_of (tree ty.now)) }
-{
-    let mut at = ty;
-    for _passed in 0..count {
-        let Term::Prod(domain, rest) = at else {
-            return Ok(at);
-        };
-        assume(ctx, domain)?;
-        at = rest;
-    }
-    Ok(at)
 }

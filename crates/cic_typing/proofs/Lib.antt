@@ -1,9 +1,7 @@
-pub mod Atoms
 pub mod Branching
 pub mod Eliminating
 pub mod Fixes
 pub mod Following
-pub mod Judging
 pub mod Matching
 pub mod Slices
-pub mod Telescopes
+pub mod Taken

@@ -10,16 +10,15 @@ ghost use Rattle.cic_spines.specs.Lists.{shared_tree, shared_trees};
 ghost use Rattle.cic_work.specs.calls.Counting.{Counts, budget, no_value};
 ghost use Rattle.cic_typing.specs.calls.Matches.{check_branch};
 
-use crate::contexts::{enter, leave};
 use crate::inference::check;
-use crate::instances::{argument_types, branch_type};
 use crate::matches::Match;
-use crate::products::product_count;
 use cic_env::{Context, CtorDecl, Env};
+use cic_limits::{enter, leave};
 use cic_terms::{Branch, Term};
 use cic_work::{Evaluator, Stop, Work};
 use std::alloc::Global;
 use std::rc::Rc;
+use typing_parts::{argument_types, branch_type, product_count};
 
 /// Whether a branch binds as many variables as the constructor has arguments behind the parameters.
 fn binds_arguments(parameters: u32, ctor: &CtorDecl, branch: &Branch) -> bool
@@ -46,7 +45,7 @@ pub(crate) fn are_branches(parameters: u32, ctors: &[CtorDecl], branches: &[Bran
 
 /// The term has the type, under entries of these types.
 #[cycle(typing)]
-#[tactic(auto, using(crate::proofs::Telescopes::drop_entered))]
+#[tactic(auto, using(cic_limits::proofs::Telescopes::drop_entered))]
 fn check_under<E: Evaluator>(
     alloc: Global,
     e: &mut E,
@@ -67,7 +66,7 @@ fn check_under<E: Evaluator>(
     work.depth += 1;
     let answer = check(alloc, e, env, ctx, t, ty, work);
     work.depth -= 1;
-    leave(ctx, types.len());
+    leave(ctx, types.len() as u64);
     answer
 }
 

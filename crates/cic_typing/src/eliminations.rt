@@ -12,12 +12,12 @@ ghost use Rattle.cic_ind.specs.declared.eliminations.Targets.TheVariants.{IfArgu
 ghost use Rattle.cic_work.specs.Verdicts.{cause_of};
 ghost use Rattle.cic_work.specs.calls.Counting.{Counts, StopsWith, budget, no_value};
 
-use crate::contexts::{enter_products, push_assumed};
 use crate::deeper::deeper;
 use crate::inference::sort_of;
 use crate::matches::Match;
 use cic_env::{Cause, Context, CtorDecl, Env};
 use cic_ind::{Targets, elimination};
+use cic_limits::{enter_products, push_assumed};
 use cic_names::{GlobalId, Sort};
 use cic_terms::Term;
 use cic_work::{Evaluator, Stop, Work};

@@ -4,7 +4,6 @@ ghost use Rattle.std.specs.Option.{option_map};
 ghost use Rattle.cic_terms.specs.Lift.{lift_tree};
 ghost use Rattle.cic_rules.specs.Environment.{assumed};
 ghost use Rattle.cic_rules.specs.Telescopes.{function_type, function_types};
-ghost use Rattle.cic_counted.specs.Evaluation.{fitting_body};
 ghost use Rattle.cic_counted.specs.GuardTest.{guard_fault};
 ghost use Rattle.cic_counted.specs.Inference.{function_context};
 ghost use Rattle.cic_counted.specs.Outcome.{fitting, follow, give, refuse_for, unguarded};
@@ -15,17 +14,16 @@ ghost use Rattle.cic_spines.specs.Lists.{shared_tree};
 ghost use Rattle.cic_work.specs.calls.Counting.{Counts, budget, no_value};
 ghost use Rattle.cic_typing.specs.calls.Parts.{IsInside};
 
-use crate::contexts::push_assumed;
-use crate::judged::lifted;
-use crate::refusals::unguarded;
 use cic_env::{Context, Env};
 use cic_guard::guarded;
-use cic_spines::{full_body, function_type};
+use cic_limits::{lifted, push_assumed};
+use cic_spines::function_type;
 use cic_terms::{FixBodies, FixBody, Term};
 use cic_work::{Stop, Work};
 use memory::NoMemory;
 use std::alloc::Global;
 use std::rc::Rc;
+use typing_parts::unguarded;
 
 /// The functions of a `fix`, in order.
 #[tactic(auto, using(crate::proofs::Slices::functions_of_slice))]
@@ -57,23 +55,6 @@ pub(crate) fn lifted_type(
 {
     let ty = function_type(alloc, one)?;
     lifted(alloc, &ty, past, work)
-}
-
-/// The full body of a function, under `all` functions.
-#[inline(never)]
-#[tactic(auto, using(crate::proofs::Judging::made_over, crate::proofs::Judging::deep_over))]
-pub(crate) fn whole_body(
-    alloc: Global,
-    all: u32,
-    one: &FixBody,
-    work: &Work,
-) -> Result<Rc<Term>, Stop>
-    ensures { Counts shared_tree result (budget work.now) (fitting_body all (function_of one.now) (budget work.now)) }
-{
-    match full_body(alloc, all, one) {
-        Ok(body) => Ok(body),
-        Err(fault) => Err(Stop::of(fault)),
-    }
 }
 
 /// Puts a function inside the others, of which `before` stand there.

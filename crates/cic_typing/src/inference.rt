@@ -14,24 +14,21 @@ ghost use Rattle.cic_spines.specs.Lists.{shared_tree};
 ghost use Rattle.cic_work.specs.calls.Counting.{Counts, budget, no_value};
 ghost use Rattle.cic_typing.specs.calls.Parts.{IsInside, function_step, step_at};
 
-use crate::contexts::{leave_to, pop_one, push_assumed, push_defined};
 use crate::deeper::deeper;
-use crate::functions::{count, each, enter_functions, guard, lifted_type, whole_body};
-use crate::judged::put_in;
-use crate::leaves::{
-    arity_of_type, product_over, type_of_constant, type_of_constructor, type_of_variable,
-};
+use crate::functions::{count, each, enter_functions, guard, lifted_type};
 use crate::matches::infer_case;
-use crate::readings::{as_product, as_sort, is_same};
-use crate::refusals::unguarded;
-use crate::sorts::{type_of_product, type_of_sort};
 use cic_env::{Context, Env};
+use cic_limits::{fitting_body, leave_to, pop_one, push_assumed, push_defined, put_in};
 use cic_names::Sort;
 use cic_spines::function_type;
 use cic_terms::{FixBodies, FixBody, Term};
 use cic_work::{Evaluator, Stop, Work};
 use std::alloc::Global;
 use std::rc::Rc;
+use typing_parts::{
+    arity_of_type, as_product, as_sort, is_same, product_over, type_of_constant,
+    type_of_constructor, type_of_product, type_of_sort, type_of_variable, unguarded,
+};
 
 /// A call one deeper under one more variable, which `enter` puts into the context, whose stop is this one's.
 macro_rules! under {
@@ -337,7 +334,7 @@ fn check_bodies<E: Evaluator>(
     let all = count(functions)?;
     enter_functions(alloc, ctx, functions, work)?;
     for one in functions {
-        let body = whole_body(alloc, all, one, work)?;
+        let body = fitting_body(alloc, all, one, work)?;
         let ty = lifted_type(alloc, one, all, work)?;
         deeper!(work, check(alloc, e, env, ctx, &body, &ty, work));
     }

@@ -11,13 +11,10 @@ ghost use Rattle.cic_spines.specs.Lists.{shared_tree, shared_trees};
 ghost use Rattle.cic_work.specs.calls.Counting.{Counts, budget};
 ghost use Rattle.cic_typing.specs.calls.Matches.{match_at, match_steps, match_under, match_with, typed_match};
 
-use crate::blocks::{require_shape, type_in_block, whole_block};
 use crate::branches::check_branches;
 use crate::deeper::deeper;
 use crate::inference::{expose, infer};
-use crate::instances::match_type;
 use crate::motives::check_motive;
-use crate::products::index_count;
 use crate::requirements::{require_branches, require_type};
 use cic_env::{Context, Env, IndType};
 use cic_names::GlobalId;
@@ -26,6 +23,7 @@ use cic_terms::{Branch, Term};
 use cic_work::{Evaluator, Stop, Work};
 use std::alloc::Global;
 use std::rc::Rc;
+use typing_parts::{index_count, match_type, require_shape, type_in_block, whole_block};
 
 /// A match on a type of a whole block, with the number of the block's parameters and of the type's indices.
 #[derive(Drop)]
@@ -67,7 +65,7 @@ fn match_with<E: Evaluator>(
 
 /// The type of a match whose value has the type `found`, which is that of the match.
 #[cycle(typing)]
-#[tactic(auto, using(crate::proofs::Telescopes::same_count))]
+#[tactic(auto, using(cic_limits::proofs::Telescopes::same_count))]
 fn match_under<E: Evaluator>(
     alloc: Global,
     e: &mut E,

@@ -12,22 +12,22 @@ ghost use Rattle.cic_spines.specs.Lists.{shared_tree, shared_trees};
 ghost use Rattle.cic_work.specs.calls.Counting.{Counts, budget, no_value};
 ghost use Rattle.cic_typing.specs.calls.Matches.{check_motive};
 
-use crate::contexts::{enter, leave};
 use crate::eliminations::eliminates;
 use crate::inference::sort_of;
-use crate::instances::{index_types, under_indices, value_type};
 use crate::matches::Match;
 use cic_env::{Context, Env};
+use cic_limits::{enter, leave};
 use cic_names::Sort;
 use cic_terms::Term;
 use cic_work::{Evaluator, Stop, Work};
 use memory::NoMemory;
 use std::alloc::Global;
 use std::rc::Rc;
+use typing_parts::{index_types, under_indices, value_type};
 
 /// The sort of a term under entries of these types.
 #[cycle(typing)]
-#[tactic(auto, using(crate::proofs::Telescopes::drop_entered))]
+#[tactic(auto, using(cic_limits::proofs::Telescopes::drop_entered))]
 fn sort_under<E: Evaluator>(
     alloc: Global,
     e: &mut E,
@@ -47,7 +47,7 @@ fn sort_under<E: Evaluator>(
     work.depth += 1;
     let answer = sort_of(alloc, e, env, ctx, t, work);
     work.depth -= 1;
-    leave(ctx, types.len());
+    leave(ctx, types.len() as u64);
     answer
 }
 
@@ -68,7 +68,7 @@ fn binder_types(
 
 /// The sort of a motive, under the indices and the value. The parameters stand under the indices.
 #[cycle(typing)]
-#[tactic(auto, using(crate::proofs::Telescopes::entered_last))]
+#[tactic(auto, using(cic_limits::proofs::Telescopes::entered_last))]
 fn motive_sort<E: Evaluator>(
     alloc: Global,
     e: &mut E,

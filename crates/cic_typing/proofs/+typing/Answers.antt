@@ -24,7 +24,7 @@ use Rattle.cic_typing.proofs.+typing.Goals.{eliminations::one_constructor-in_def
 use Rattle.cic_counted.specs.Evaluation.{whnf_from}
 use Rattle.cic_typing.proofs.Matching.{typed_in_order, steps_join, after_motive}
 use Rattle.cic_counted.specs.Readings.{arguments_of}
-use Rattle.cic_typing.proofs.Telescopes.{first_trees, last_trees}
+use Rattle.cic_typing.proofs.Taken.{first_trees, last_trees}
 use Rattle.cic_rules.specs.Telescopes.{substitute_all}
 use Rattle.cic_typing.proofs.+typing.Goals as goal
 

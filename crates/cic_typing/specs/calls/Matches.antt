@@ -1,8 +1,5 @@
 -- The parts of the typing of a match, as the program goes through them.
-use Rattle.std.specs.Prelude.{ℕ, ◌+◌, ◌&&◌, nat_eq, Vec, List, [], ◌∷◌, ◌++◌, length, take, drop}
-use Rattle.std.specs.declared.rc.Rc.{Rc}
-use Rattle.std.specs.declared.alloc.Global.{Global}
-use Rattle.cic_terms.specs.declared.term.Term.{Term}
+use Rattle.std.specs.Prelude.{ℕ, ◌+◌, ◌&&◌, nat_eq, List, [], ◌∷◌, ◌++◌, length, take, drop}
 use Rattle.cic_terms.specs.Denotes.{branch_list}
 use Rattle.cic_terms.specs.Tree.{Tree, ind}
 use Rattle.cic_names.specs.declared.name.GlobalId.{GlobalId}
@@ -13,12 +10,8 @@ use Rattle.cic_counted.specs.Outcome.{Counted, bad_branch_count, fitting, fittin
 use Rattle.cic_counted.specs.Readings.{arguments_of, instantiate}
 use Rattle.cic_counted.specs.Sameness.{same_tree}
 use Rattle.cic_env.specs.Declarations.{type_declaration}
-use Rattle.cic_spines.specs.Lists.{shared_tree, shared_trees}
+use Rattle.cic_spines.specs.Lists.{shared_tree}
 use Rattle.cic_typing.specs.declared.matches.Match.{Match}
-
--- What values stand for.
-abbrev pub made_trees : Vec (Rc Term Global) Global → List Tree
-made_trees made = shared_trees made.items
 
 -- A branch has its type under its constructor's arguments.
 abbrev pub check_branch : Calls → Context → (a : ℕ) → (parameters : List Tree) → (motive : Tree) → ConstructorDeclaration → Tree → Counted (Unit {0})

@@ -3,20 +3,14 @@ use Rattle.std.specs.Prelude.{◌≡◌, ℕ, ◌+◌, ◌-◌, List, length, dr
 use Rattle.cic_rules.specs.Environment.{Environment, Context}
 use Rattle.cic_terms.specs.Tree.{Tree}
 use Rattle.cic_counted.specs.Evaluation.{whnf_from}
-use Rattle.cic_counted.specs.Inference as I
 use Rattle.cic_counted.specs.GuardTest.{guard_fault}
 use Rattle.cic_counted.specs.Inference.{Calls, calls_from, check_bodies, function_context, infer_step, sort_each}
 use Rattle.cic_counted.specs.Outcome.{Counted, ◌>>=◌, ◌>>◌, give, refuse_for, unguarded}
 use Rattle.cic_rules.specs.Telescopes.{Function, function_type, function_types}
-use Rattle.cic_spines.specs.Lists.{shared_tree}
-use Rattle.cic_typing.specs.declared.readings.Product.{Product}
 
 -- What the inference of a term comes to, once its call of that depth is entered.
 abbrev pub step_at : (depth : ℕ) → Environment → Context → Tree → Counted Tree
 step_at depth E = infer_step (whnf_from (depth + 1) E) (calls_from (depth + 1) E) E
-
-abbrev pub product : Product → I.Product
-product p = record { domain = shared_tree p.domain; codomain = shared_tree p.codomain }
 
 -- The entries of a context stand in another outside all that it has more.
 abbrev pub IsInside : (new old : Context) → Type 0

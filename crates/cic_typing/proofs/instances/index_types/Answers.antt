@@ -1,5 +1,0 @@
-use Rattle.cic_typing.proofs.Judging.{one_is_deep}
-use Rattle.cic_typing.proofs.instances.index_types.Goals as goal
-
-pub returns-in-Err : goal.returns-in-Err
-returns-in-Err c = one_is_deep _ c.in-Err.fault c.of.result _ c.of.ensures c.in-Err.ensures.deep

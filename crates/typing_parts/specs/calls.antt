@@ -1,0 +1,2 @@
+-- Words that state contracts of the parts of typing.
+pub mod Parts
