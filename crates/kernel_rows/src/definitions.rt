@@ -38,7 +38,9 @@ pub fn universes(rt: &HostRuntime, maker: Maker, env: &mut Env) -> anyhow::Resul
     ask(rt, env, "large : Set := forall x0 : Set, x0", large)?;
     let all = maker.product(maker.set(), maker.constant("P"));
     let small = maker.definition("small", maker.prop(), all);
-    declare(rt, env, "small : Prop := Set -> P", small)
+    declare(rt, env, "small : Prop := Set -> P", small)?;
+    let both = maker.definition("both", maker.prop(), arrow(maker));
+    declare(rt, env, "both : Prop := P -> P", both)
 }
 
 /// Opaque bodies: their constraints are their own, and they do not unfold.

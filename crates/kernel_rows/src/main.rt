@@ -6,6 +6,9 @@
 mod axioms;
 mod blocks;
 mod definitions;
+mod eta;
+mod families;
+mod made;
 mod outcome;
 mod session;
 
@@ -26,5 +29,12 @@ fn main(rt: HostRuntime) -> anyhow::Result<()> {
     blocks::recursion(&rt, maker, &mut env)?;
     blocks::equality(&rt, maker, &mut env)?;
     blocks::refused(&rt, maker, &mut env)?;
-    blocks::refused_matches(&rt, maker, &mut env)
+    blocks::refused_matches(&rt, maker, &mut env)?;
+    families::blocks(&rt, maker, &mut env)?;
+    families::recursion(&rt, maker, &mut env)?;
+    families::equality(&rt, maker, &mut env)?;
+    families::eliminations(&rt, maker, &mut env)?;
+    families::anything(&rt, maker, &mut env)?;
+    let mut env = Env::new(rt.alloc());
+    eta::expansion(&rt, maker, &mut env)
 }
