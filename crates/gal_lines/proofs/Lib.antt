@@ -1,0 +1,4 @@
+pub mod Cursors
+pub mod Runs
+pub mod Follows
+pub mod Items
