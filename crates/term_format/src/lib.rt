@@ -1,0 +1,7 @@
+//! The bytes of terms and of lists of constraints in a library file: how each is spelled, which can be stored, and how
+//! bytes are read, with their first defect. Each public function has an empty body, and its contract is a law or an
+//! example.
+#![tactic(auto)]
+
+pub mod examples;
+pub mod laws;
