@@ -9,6 +9,9 @@ use crate::token::{LexFault, Token, Tokens};
 use crate::word::rest_of;
 use std::alloc::Global;
 
+/// For so many bytes of a source there is room for one token at the start.
+const BYTES_FOR_ONE: usize = 4;
+
 /// The fault, so many bytes further on.
 fn behind(fault: LexFault, at: u32) -> LexFault
     requires { at + place_of fault < 2 ^ 32 }
@@ -47,7 +50,7 @@ pub fn lex(alloc: Global, source: &[u8]) -> Result<Tokens, LexFault>
     ensures tokens { IfOk result (TokensOf source.now) }
     ensures fault { IfErr result (λ fault. fault ≢ F.NoMemory → IsFault source.now fault) }
 {
-    let mut tokens = Vec::new(alloc);
+    let mut tokens = Vec::with_capacity(alloc, source.len() / BYTES_FOR_ONE)?;
     let mut at = 0;
     while at < source.len() {
         match front(rest_of(source, at)) {

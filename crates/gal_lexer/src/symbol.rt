@@ -59,30 +59,56 @@ pub fn spelling_length(mark: Mark) -> usize
     }
 }
 
-/// The reserved word that the bytes are.
-pub fn reserved(word: &[u8]) -> Option<Mark>
+fn of_two(word: &[u8]) -> Option<Mark>
+    requires { length word.now ≡ 2 }
     ensures { result ≡ reserved_of word.now }
 {
-    if word == b"forall".as_slice() {
-        return Some(Mark::Forall);
-    }
-    if word == b"return".as_slice() {
-        return Some(Mark::Return);
-    }
     match word {
-        b"_" => Some(Mark::Blank),
         b"in" => Some(Mark::In),
         b"as" => Some(Mark::As),
+        _ => None,
+    }
+}
+
+fn of_three(word: &[u8]) -> Option<Mark>
+    requires { length word.now ≡ 3 }
+    ensures { result ≡ reserved_of word.now }
+{
+    match word {
         b"fun" => Some(Mark::Fun),
         b"let" => Some(Mark::Let),
         b"fix" => Some(Mark::Fix),
         b"for" => Some(Mark::For),
         b"end" => Some(Mark::End),
         b"Set" => Some(Mark::Set),
+        _ => None,
+    }
+}
+
+fn of_four(word: &[u8]) -> Option<Mark>
+    requires { length word.now ≡ 4 }
+    ensures { result ≡ reserved_of word.now }
+{
+    match word {
         b"Prop" => Some(Mark::Prop),
         b"Type" => Some(Mark::Typ),
         b"with" => Some(Mark::With),
-        b"match" => Some(Mark::Match),
+        _ => None,
+    }
+}
+
+/// The reserved word that the bytes are.
+pub fn reserved(word: &[u8]) -> Option<Mark>
+    ensures { result ≡ reserved_of word.now }
+{
+    match word.len() {
+        1 if word == b"_".as_slice() => Some(Mark::Blank),
+        2 => of_two(word),
+        3 => of_three(word),
+        4 => of_four(word),
+        5 if word == b"match".as_slice() => Some(Mark::Match),
+        6 if word == b"forall".as_slice() => Some(Mark::Forall),
+        6 if word == b"return".as_slice() => Some(Mark::Return),
         _ => None,
     }
 }

@@ -8,7 +8,7 @@ use Rattle.gal_lexer.proofs.lexer.lex.Goals as goal
 
 pub loop-at-init : goal.loop-at-init
 loop-at-init c = record {
-  split = subst (λ ts. Splits c.args.source.now 0 ts) (sym c.new-tokens.ensures.items) at_start;
+  split = subst (λ ts. Splits c.args.source.now 0 ts) (sym c.in_ok-tokens.ensures.items) at_start;
   within = omega arith;
 }
 
