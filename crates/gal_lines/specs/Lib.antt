@@ -1,3 +1,4 @@
 pub mod Lines
+pub mod Joined
 pub mod Sentences
 pub mod calls

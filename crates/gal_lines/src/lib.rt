@@ -3,6 +3,7 @@
 
 mod building;
 mod cursor;
+pub mod laws;
 mod places;
 mod words;
 
