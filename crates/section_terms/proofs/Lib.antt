@@ -1,0 +1,5 @@
+pub mod Replacing
+pub mod Discharging
+pub mod Uses
+pub mod Keeping
+pub mod Twice
