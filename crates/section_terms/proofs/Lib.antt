@@ -3,3 +3,4 @@ pub mod Discharging
 pub mod Uses
 pub mod Keeping
 pub mod Twice
+pub mod Inner

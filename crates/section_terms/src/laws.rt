@@ -6,8 +6,8 @@ ghost use Rattle.cic_rules.specs.Environment.{Declaration};
 ghost use Rattle.section_terms.specs.Names.{names_in};
 ghost use Rattle.section_terms.specs.Hypotheses.{Hypothesis};
 ghost use Rattle.section_terms.specs.Used.{used, is_in, with_those_of, names_in_hypotheses, statement_names, body_names};
-ghost use Rattle.section_terms.specs.Discharge.{over_part, over_block_part, generalised, generalised_type, generalised_body, generalised_part};
-ghost use Rattle.section_terms.specs.Laws.{AreAmong, HaveNoArguments, IsClosed};
+ghost use Rattle.section_terms.specs.Discharge.{applied, hypotheses_applied, over_part, over_block_part, generalised, generalised_type, generalised_body, generalised_part};
+ghost use Rattle.section_terms.specs.Laws.{AreAmong, HaveNoArguments, IsClosed, AreFresh, joined};
 ghost use Rattle.section_terms.specs.calls.Standing.{bounds, nothing_passed, pass_all, put, under_binders};
 
 /// What is used is a hypothesis of the section, and names that are none of a hypothesis use nothing.
@@ -36,6 +36,15 @@ pub fn twice_is_once()
     ensures types { (outer inner : List Hypothesis) (t : Tree) → over_part (λ a b. prod a b) outer (over_part (λ a b. prod a b) inner t) ≡ over_part (λ a b. prod a b) (outer ++ inner) t }
     ensures bodies { (outer inner : List Hypothesis) (t : Tree) → over_part (λ a b. lam a b) outer (over_part (λ a b. lam a b) inner t) ≡ over_part (λ a b. lam a b) (outer ++ inner) t }
     ensures blocks { (outer inner : List Hypothesis) (t : Tree) → over_block_part outer (over_block_part inner t) ≡ over_block_part (outer ++ inner) t }
+{}
+
+/// So does one who applies the constants of an inner section to its variables and then to those of an outer one. The
+/// inner variables are no constants, so they are applied to nothing, and no outer variable is one of them.
+#[tactic(auto, using(crate::proofs::Inner::types_inner_then_outer, crate::proofs::Inner::bodies_inner_then_outer, crate::proofs::Inner::parts_inner_then_outer))]
+pub fn inner_then_outer_is_once()
+    ensures types { (outer inner : GlobalId → List GlobalId) (os is : List Hypothesis) (t : Tree) → ((c : GlobalId) → HaveNoArguments outer (inner c)) → AreFresh outer is → generalised_type outer os (generalised_type inner is t) ≡ over_part (λ a b. prod a b) (hypotheses_applied outer os ++ hypotheses_applied (joined outer inner) is) (applied (joined outer inner) t) }
+    ensures bodies { (outer inner : GlobalId → List GlobalId) (os is : List Hypothesis) (t : Tree) → ((c : GlobalId) → HaveNoArguments outer (inner c)) → AreFresh outer is → generalised_body outer os (generalised_body inner is t) ≡ over_part (λ a b. lam a b) (hypotheses_applied outer os ++ hypotheses_applied (joined outer inner) is) (applied (joined outer inner) t) }
+    ensures blocks { (outer inner : GlobalId → List GlobalId) (os is : List Hypothesis) (t : Tree) → ((c : GlobalId) → HaveNoArguments outer (inner c)) → AreFresh outer is → generalised_part outer os (generalised_part inner is t) ≡ over_block_part (hypotheses_applied outer os ++ hypotheses_applied (joined outer inner) is) (applied (joined outer inner) t) }
 {}
 
 /// One walk over each term, with what names stand for under the binders that were passed, does what the definitions

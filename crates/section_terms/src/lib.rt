@@ -10,6 +10,6 @@ pub use examples::{
     a_variable_is_bound, used_by_constants, used_in_order, used_through_types, what_is_not_done,
 };
 pub use laws::{
-    kept_where_nothing_is_named, one_walk_is_one_by_one, twice_is_once, used_are_hypotheses,
-    used_is_closed,
+    inner_then_outer_is_once, kept_where_nothing_is_named, one_walk_is_one_by_one, twice_is_once,
+    used_are_hypotheses, used_is_closed,
 };
