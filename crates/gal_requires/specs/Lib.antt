@@ -1,0 +1,3 @@
+pub mod Required
+pub mod Roots
+pub mod calls
