@@ -1,5 +1,5 @@
 -- The sentences of each command of a file are as many lists as there are commands, and hold all its tokens.
-use Rattle.std.proofs.Common.{ℕ, zero, suc, Bool, true, false, cond, List, [], ◌∷◌, ◌++◌, ◌≡◌, length, map, not, refl, ap, sym, subst, ◌∙◌, append_assoc, arith, if◌then◌else◌}
+use Rattle.std.proofs.Common.{ℕ, suc, Bool, true, false, List, [], ◌∷◌, ◌++◌, ◌≡◌, length, map, not, refl, ap, sym, ◌∙◌, if◌then◌else◌}
 use Rattle.std.proofs.lemmas.List.{length-map}
 use Rattle.gal_lexer.specs.declared.token.Token.{Token}
 use Rattle.gal_lexer.specs.declared.token.Kind.{Kind}
@@ -8,7 +8,7 @@ use Rattle.gal_lexer.specs.declared.token.Mark.TheVariants as M
 use Rattle.gal_grammar.specs.Tokens.{of_kind, spelled, all_spelled}
 use Rattle.gal_grammar.specs.Commands.{Command}
 use Rattle.gal_grammar.specs.Grammar.{File}
-use Rattle.gal_lines.specs.Sentences.{is_stop_kind, is_stop, with_token, sentences, goes_on, sentence_goes_on, command_goes_on, with_sentence, commands, lines_of, command_lines}
+use Rattle.gal_lines.specs.Sentences.{is_stop_kind, is_stop, with_token, sentences, sentence_goes_on, command_goes_on, with_sentence, commands, lines_of, command_lines}
 use Rattle.gal_lines.specs.Joined.{joined}
 use Rattle.gal_lines.proofs.Wants.{count_if}
 use Rattle.gal_lines.proofs.Counts.{ends_token, count_first, begun, at_start, count_file, file_opens}

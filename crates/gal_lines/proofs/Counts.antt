@@ -1,5 +1,5 @@
 -- How many sentences of a file begin a command: as many as it has commands.
-use Rattle.std.proofs.Common.{ℕ, zero, suc, Bool, true, false, cond, List, [], ◌∷◌, ◌++◌, ◌≡◌, ◌≤◌, ◌<◌, ◌+◌, length, Option, Some, None, map, not, refl, ap, sym, subst, ◌∙◌, arith, codes, true≢false, if◌then◌else◌, ◌&&◌}
+use Rattle.std.proofs.Common.{ℕ, Bool, true, false, cond, List, [], ◌∷◌, ◌++◌, ◌≡◌, ◌+◌, length, Option, Some, None, map, not, refl, ap, sym, subst, ◌∙◌, arith, codes, ◌&&◌}
 use Rattle.std.specs.Str.{bytes_eq}
 use Rattle.std.proofs.lemmas.Option.{same_Some}
 use Rattle.std.proofs.lemmas.Bool.{and_parts, eqb-true}
@@ -8,15 +8,14 @@ use Rattle.gal_lexer.specs.Marks.{spelling}
 use Rattle.gal_grammar.specs.Tokens.{Token}
 use Rattle.gal_grammar.specs.Tokens as T
 use Rattle.gal_grammar.specs.Tests.{Test, mark, word, ident, qualid, name, passes}
-use Rattle.gal_grammar.specs.Commands.{Command, require, universe, constraint, axiom_of, variable_of, definition, definition_by, local_of, fixpoint, inductive, theorem, section, finish}
-use Rattle.gal_grammar.specs.Values.{puts, Val, a_name, a_qual, a_binder, names, quals, binders, maybe_name, maybe_binder, maybe_within, term, maybe_term, groups, functions, branches, ctors, inds, a_level, a_relation, conses, flag, using, a_proof, commands}
-use Rattle.gal_grammar.specs.Actions.{Act, makes, push, push_below, bind, add_binder, add_name, add_qual, add_group, add_function, add_branch, add_ctor, add_ind, add_cons, set_name, set_for, set_as, set_within, set_type, set_using, set_using_names, set_flag, mk_ref, mk_type_at, mk_app, mk_arrow, mk_prod, mk_func, mk_let, mk_fix, mk_match, mk_level, mk_proof, mk_no_proof, say_require, say_universe, say_constraint, say_axiom, say_variable, say_definition, say_definition_by, say_local, say_fixpoint, say_inductive, say_theorem, say_section, say_finish}
-use Rattle.gal_grammar.specs.Kinds.{Row, row, Kind, Want, tok, act, nt, fix_tail, k_file, k_commands, k_definition, k_required, k_quals, k_level, k_relation, k_conses, k_assums, k_idents, k_bounds, k_bound_groups, k_names, k_groups, k_some_groups, k_binders, k_function, k_struct, k_fixpoints, k_ind, k_inds, k_ctors, k_ctors_behind, k_more_ctors, k_ctor, k_ctor_type, k_proof, k_proof_body, k_using, k_ending, k_qed, k_term, k_atom, k_tail, k_type_level, k_functions, k_as, k_in, k_with, k_with_any, k_branches, k_any_branches, k_branch, k_more_branches}
-use Rattle.gal_grammar.specs.Rules.{rules, may_be_none}
+use Rattle.gal_grammar.specs.Commands.{Command}
+use Rattle.gal_grammar.specs.Values.{puts, Val}
+use Rattle.gal_grammar.specs.Kinds.{Row, row, Kind, Want, nt, fix_tail, k_file, k_function, k_functions}
+use Rattle.gal_grammar.specs.Rules.{rules}
 use Rattle.gal_grammar.specs.Grammar.{pick, Reads, at_end, token, action, by_row, by_none, no_more, one_more, File}
 use Rattle.gal_lines.specs.Sentences.{is_proof_word, goes_on}
-use Rattle.gal_lines.proofs.Tags.{Tag, act_fits, act_tags, no_count, no_tags, one_more_command, said_one, t_binder, t_binders, t_branches, t_commands, t_conses, t_ctors, t_flag, t_functions, t_groups, t_inds, t_level, t_maybe_binder, t_maybe_name, t_maybe_term, t_maybe_within, t_name, t_names, t_proof, t_qual, t_quals, t_relation, t_term, t_using, tag}
-use Rattle.gal_lines.proofs.Wants.{AllFit, Behind, RowFits, at_last, check, count_if, kind_tags, none_fits, on_kind, on_tags, opens, opens_none, rows_fit, some_more, stops, tok_tags}
+use Rattle.gal_lines.proofs.Tags.{Tag, act_fits, act_tags, no_count, t_commands, t_functions, t_maybe_name, tag}
+use Rattle.gal_lines.proofs.Wants.{AllFit, RowFits, check, count_if, none_fits, on_tags, opens, opens_none, rows_fit, stops, tok_tags}
 
 pub text_same : (x y : List ℕ) → bytes_eq x y ≡ true → x ≡ y
 text_same [] [] e = refl

@@ -1,6 +1,6 @@
 -- One byte further.
-use Rattle.std.proofs.Common.{ℕ, suc, Bool, true, false, List, [], ◌∷◌, ◌++◌, ◌≡◌, ◌≤◌, ◌<◌, ◌+◌, length, take, get_or, not, refl, ap, sym, subst, ◌∙◌, arith, add-one, if◌then◌else◌}
-use Rattle.std.specs.Prelude.{count_by, reverse}
+use Rattle.std.proofs.Common.{ℕ, Bool, true, false, List, [], ◌∷◌, ◌++◌, ◌≡◌, ◌<◌, ◌+◌, length, take, get_or, not, refl, ap, sym, ◌∙◌, arith, add-one, if◌then◌else◌}
+use Rattle.std.specs.Prelude.{reverse}
 use Rattle.std.specs.List.{prefix_len}
 use Rattle.std.proofs.lemmas.List.{reverse-append}
 use Rattle.std.proofs.lemmas.List.Sums.{count_by_more_no, count_by_more_yes}

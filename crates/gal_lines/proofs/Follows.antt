@@ -1,5 +1,5 @@
 -- The tokens of a source stand in it in order.
-use Rattle.std.proofs.Common.{ℕ, List, [], ◌∷◌, ◌++◌, ◌≡◌, ◌≤◌, ◌<◌, ◌+◌, length, get_or, drop, suc, add-one, refl, ap, sym, subst, ◌∙◌, append_assoc, append-nil, arith}
+use Rattle.std.proofs.Common.{ℕ, List, [], ◌∷◌, ◌++◌, ◌≤◌, ◌<◌, ◌+◌, length, get_or, drop, suc, add-one, ap, sym, subst, ◌∙◌, append_assoc, append-nil, arith}
 use Rattle.gal_lexer.specs.declared.token.Token.{Token}
 use Rattle.gal_lexer.specs.Tokens.{Splits, at_start, gap, token, TokensOf}
 use Rattle.std.proofs.Math.Seq.{drop-cons}

@@ -1,15 +1,15 @@
 -- Sentences and commands from the front are those of the definition.
-use Rattle.std.proofs.Common.{ℕ, zero, suc, Bool, true, false, cond, List, [], ◌∷◌, ◌++◌, ◌≡◌, ◌≤◌, ◌<◌, ◌+◌, ◌-◌, length, Option, Some, None, map, take, drop, get_or, add-one, refl, ap, sym, subst, ◌∙◌, append_assoc, append-nil, arith, if◌then◌else◌}
+use Rattle.std.proofs.Common.{ℕ, zero, suc, Bool, true, false, List, [], ◌∷◌, ◌++◌, ◌≡◌, ◌≤◌, ◌<◌, ◌+◌, length, Option, Some, None, map, drop, get_or, add-one, refl, ap, sym, subst, ◌∙◌, append_assoc, append-nil, arith, if◌then◌else◌}
 use Rattle.std.specs.Prelude.{unwrap_or}
 use Rattle.gal_lexer.specs.declared.token.Token.{Token}
 use Rattle.gal_grammar.specs.Tokens.{spelled}
-use Rattle.gal_lines.specs.Sentences.{is_stop, with_token, sentences, goes_on, sentence_goes_on, command_goes_on, with_sentence, commands, lines_between, last_of, lines_of, command_lines}
+use Rattle.gal_lines.specs.Sentences.{is_stop, with_token, sentences, goes_on, command_goes_on, with_sentence, commands, lines_between, last_of, lines_of, command_lines}
 use Rattle.gal_lines.specs.declared.places.Lines.{Lines}
 use Rattle.gal_lines.specs.declared.building.Opened.{Opened}
 use Rattle.gal_lines.specs.calls.Groups.{HaveSentences}
 use Rattle.std.proofs.lemmas.Option.{same_Some}
 use Rattle.std.proofs.lemmas.List.{length-map}
-use Rattle.gal_lines.specs.calls.Building.{State, start, opening, lines_up_to, some_command, closed, added, put_in, with_open, token_behind, next, run, IsOpenBefore}
+use Rattle.gal_lines.specs.calls.Building.{State, start, opening, lines_up_to, some_command, closed, put_in, with_open, token_behind, next, run, IsOpenBefore}
 use Rattle.std.proofs.Math.Seq.{drop-cons}
 
 -- where the sentences of commands stand

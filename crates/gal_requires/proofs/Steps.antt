@@ -1,10 +1,10 @@
 -- From name to name.
-use Rattle.std.proofs.Common.{ℕ, zero, suc, List, [], ◌∷◌, ◌++◌, ◌≡◌, ◌≤◌, ◌<◌, ◌+◌, length, Option, Some, None, map, take, drop, get_or, refl, ap, sym, subst, ◌∙◌, append_assoc, append-nil, arith, add-one}
+use Rattle.std.proofs.Common.{ℕ, zero, suc, List, [], ◌∷◌, ◌++◌, ◌≡◌, ◌≤◌, ◌<◌, ◌+◌, length, Option, map, take, drop, get_or, refl, ap, sym, subst, ◌∙◌, append_assoc, append-nil, arith, add-one}
 use Rattle.gal_raw.specs.Denotes.{qualified}
 use Rattle.gal_raw.specs.declared.names.QualifiedName.{QualifiedName}
 use Rattle.gal_requires.specs.Required.{denoted}
 use Rattle.gal_requires.specs.declared.requiring.Require.{Require}
-use Rattle.gal_requires.specs.Roots.{Mention, mention, mentions_of, mentions, Means, Roots, none, further, with_library, IsUnknown, IsRootFault}
+use Rattle.gal_requires.specs.Roots.{Mention, mention, mentions_of, mentions, Roots, further, IsRootFault}
 use Rattle.gal_requires.specs.declared.naming.RootFault.{RootFault}
 use Rattle.gal_requires.specs.declared.naming.RootFault.TheVariants as F
 use Rattle.gal_requires.specs.calls.Steps.{Adds, Nameless, Goes, Fails}

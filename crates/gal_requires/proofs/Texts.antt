@@ -1,6 +1,6 @@
 -- A name spells one library.
 use Rattle.std.specs.Bool.{Decides}
-use Rattle.std.proofs.Common.{ℕ, Bool, true, false, true≢false, MatchBool, List, [], ◌∷◌, ◌++◌, ◌≡◌, Option, Some, None, MatchOption, Bor, refl, ap, sym, subst, ◌∙◌}
+use Rattle.std.proofs.Common.{ℕ, Bool, true, false, true≢false, MatchBool, List, [], ◌∷◌, ◌++◌, ◌≡◌, Option, Some, None, MatchOption, Bor, refl, ap, sym, ◌∙◌}
 use Rattle.std.proofs.lemmas.Option.{same_Some}
 use Rattle.gal_grammar.specs.Terms.{Qual, short, long}
 use Rattle.gal_requires.specs.Roots.{Spells}

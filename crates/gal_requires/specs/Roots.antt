@@ -4,7 +4,6 @@ use Rattle.std.specs.List.{list_any}
 use Rattle.std.specs.Str.{bytes_eq}
 use Rattle.cic_names.specs.Identifier.{IsIdentifier}
 use Rattle.gal_grammar.specs.Terms.{Named, named, Qual, short, long}
-use Rattle.gal_raw.specs.declared.names.Identifier.{Identifier}
 use Rattle.gal_raw.specs.Denotes.{identifier}
 use Rattle.gal_lines.specs.declared.places.Lines.{Lines}
 use Rattle.gal_requires.specs.Required.{Required}

@@ -1,11 +1,10 @@
 -- Token after token.
-use Rattle.std.proofs.Common.{subst, sym, arith, ◌∙◌, ap, length, ◌≡◌, ◌≤◌, ◌<◌, ◌+◌, get_or, Some}
+use Rattle.std.proofs.Common.{subst, sym, arith, ◌∙◌, ap, length, ◌≤◌, ◌<◌, get_or}
 use Rattle.gal_lexer.specs.declared.token.Token.{Token}
 use Rattle.gal_lexer.specs.declared.token.Kind.TheVariants as K
 use Rattle.gal_lexer.specs.declared.token.Mark.TheVariants as M
-use Rattle.gal_lines.specs.Sentences.{command_lines}
-use Rattle.gal_lines.specs.calls.Building.{state_of, run, start, Follow, IsOpenBefore}
-use Rattle.gal_lines.specs.calls.Groups.{items_of, HaveSentences}
+use Rattle.gal_lines.specs.calls.Building.{state_of, run, Follow, IsOpenBefore}
+use Rattle.gal_lines.specs.calls.Groups.{HaveSentences}
 use Rattle.gal_lines.proofs.Runs.{have_sentences, run_next, open_behind, at_the_end}
 use Rattle.gal_lines.proofs.Follows.{follow_tokens, follow_behind, follow_within, follow_next}
 use Rattle.gal_lines.proofs.building.sentences_of.Goals as goal

@@ -1,7 +1,6 @@
 use Rattle.std.proofs.Common.{ap, sym, ◌∙◌, ◌++◌, Some, map, suc, add-one}
 use Rattle.std.proofs.lemmas.Option.{slice_get-get_or}
-use Rattle.gal_raw.specs.Commands as C
-use Rattle.gal_requires.specs.Required.{required_by, denoted}
+use Rattle.gal_requires.specs.Required.{denoted}
 use Rattle.gal_requires.proofs.Places.{from_on, from_next, one_further}
 use Rattle.gal_requires.proofs.requiring.required.Goals as goal
 
