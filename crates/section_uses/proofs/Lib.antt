@@ -1,0 +1,4 @@
+pub mod Membership
+pub mod Noted
+pub mod Seeing
+pub mod Closed

@@ -1,0 +1,2 @@
+-- Words that state contracts of calls.
+pub mod Closing
