@@ -1,0 +1,45 @@
+-- The functions of a fix, as they are written and as they are read.
+use Rattle.std.specs.Prelude.{ℕ, ◌+◌, ◌++◌, List, [], ◌∷◌, length}
+use Rattle.cic_names.specs.Orders.{digits}
+use Rattle.cic_terms.specs.Tree.{Shape, many, Children, child, no_child}
+use Rattle.cic_terms.specs.Denotes.{tree, bodies, shapes, body_list, body_parts, domain_count, shape, shape_list}
+use Rattle.cic_terms.specs.declared.term.FixBodies.{FixBodies}
+use Rattle.cic_terms.specs.declared.term.Branch.{Branch}
+use Rattle.cic_terms.specs.declared.term.FixBody.{FixBody}
+use Rattle.term_format.specs.Spelling.{joined, part_bytes, function_bytes}
+use Rattle.term_format.specs.TermReading.{Sub, Functions}
+use Rattle.term_format.specs.Storable.{most_number}
+use Rattle.term_format.specs.Reading.{Reading, value, and_then, read_limited}
+
+-- The bytes of one function.
+abbrev pub one_bytes : (all : ℕ) → FixBody → List ℕ
+one_bytes all b = digits b.k ++ (digits (domain_count b) ++ joined (part_bytes (body_parts all b)))
+
+-- The bytes of functions of a fix that has `all` of them.
+abbrev pub all_bytes : (all : ℕ) → List FixBody → List ℕ
+all_bytes all bs = function_bytes (shape_list bs) (part_bytes (body_list all bs))
+
+-- The shapes and parts of functions of a fix that has `all` of them.
+abbrev pub functions_of : (all : ℕ) → List FixBody → Functions
+functions_of all bs = record { shapes = shape_list bs; parts = body_list all bs }
+
+abbrev pub functions_in : FixBodies → Functions
+functions_in all = record { shapes = shapes all; parts = bodies all }
+
+-- The shape of a function that has these numbers.
+abbrev pub shape_of : ℕ × ℕ → Shape
+shape_of s = record { k = s.0; domains = s.1 }
+
+-- A branch as a list of one, and how one is read.
+abbrev pub branch_of : Branch → Children
+branch_of b = child (many b.binders) (tree b.body) no_child
+
+abbrev pub read_branch : Sub → List ℕ → Reading Children
+read_branch sub bytes =
+    and_then (read_limited most_number bytes) (λ binders rest.
+    and_then (sub rest) (λ t rest.
+    value (child (many binders) t no_child) rest))
+
+-- One function.
+abbrev pub function_of : (all : ℕ) → FixBody → Functions
+function_of all b = record { shapes = shape b ∷ []; parts = body_parts all b }

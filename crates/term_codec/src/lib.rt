@@ -1,0 +1,14 @@
+//! Terms and lists of constraints as the bytes of a library file, and back.
+#![tactic(auto)]
+
+mod constraints;
+mod encoding;
+mod faults;
+mod fields;
+mod reading;
+mod writing;
+
+pub use encoding::encode_constraints;
+pub use faults::DecodeFault;
+pub use reading::{decode_constraints, level_at, name_at};
+pub use seg_format::Bytes;
