@@ -1,6 +1,8 @@
 pub mod Places
 pub mod Numbers
 pub mod Ends
-pub mod TermLoops
 pub mod Inserting
 pub mod Refusing
+pub mod Sorts
+pub mod Written
+pub mod WrittenParts

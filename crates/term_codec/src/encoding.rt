@@ -1,10 +1,13 @@
 //! What callers write: a list of constraints, and a term.
 ghost use Rattle.std.specs.Prelude.{◌≡◌, IfOk};
-ghost use Rattle.term_format.specs.Spelling.{constraints_bytes};
-ghost use Rattle.term_format.specs.Storable.{AreStorable};
+ghost use Rattle.term_format.specs.Spelling.{constraints_bytes, term_bytes};
+ghost use Rattle.term_format.specs.Storable.{AreStorable, IsStorable};
+ghost use Rattle.cic_terms.specs.Denotes.{tree};
 
 use crate::writing::{put_constraint, put_number};
+use crate::writing_terms::put_term;
 use cic_names::{Constraints, NoMemory};
+use cic_terms::Term;
 use seg_format::Bytes;
 use std::alloc::Global;
 
@@ -18,5 +21,15 @@ pub fn encode_constraints(alloc: Global, all: &Constraints) -> Result<Bytes, NoM
     for one in all.iter() {
         put_constraint(&mut bytes, one)?;
     }
+    Ok(bytes)
+}
+
+/// The bytes of a term.
+pub fn encode_term(alloc: Global, t: &Term) -> Result<Bytes, NoMemory>
+    requires { IsStorable (tree t.now) }
+    ensures { IfOk result (λ bytes. bytes.items ≡ term_bytes (tree t.now)) }
+{
+    let mut bytes = Vec::new(alloc);
+    put_term(&mut bytes, t)?;
     Ok(bytes)
 }

@@ -7,8 +7,9 @@ mod faults;
 mod fields;
 mod reading;
 mod writing;
+mod writing_terms;
 
-pub use encoding::encode_constraints;
+pub use encoding::{encode_constraints, encode_term};
 pub use faults::DecodeFault;
 pub use reading::{decode_constraints, level_at, name_at};
 pub use seg_format::Bytes;
