@@ -1,6 +1,6 @@
 -- A reading that ends before what follows it.
-use Rattle.std.proofs.Common.{◌≡◌, ℕ, suc, zero, ◌+◌, ◌-◌, ◌≤◌, ◌<◌, List, [], ◌∷◌, ◌++◌, length, drop, refl, ap, sym, ◌∙◌, subst, arith}
-use Rattle.term_format.specs.Reading.{Reading, value, wrong, and_then}
+use Rattle.std.proofs.Common.{◌≡◌, ℕ, suc, ◌+◌, ◌-◌, ◌≤◌, ◌<◌, List, ap, sym, subst, arith}
+use Rattle.term_format.specs.Reading.{Reading, and_then}
 use Rattle.term_codec.specs.declared.faults.Stop.{Stop}
 use Rattle.term_codec.specs.declared.faults.Stop.TheVariants.{Wrong, NoMemory}
 use Rattle.term_codec.specs.calls.Answers.{Stops}

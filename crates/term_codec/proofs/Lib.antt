@@ -6,3 +6,5 @@ pub mod Refusing
 pub mod Sorts
 pub mod Written
 pub mod WrittenParts
+pub mod TermLoops
+pub mod RowsRead

@@ -1,5 +1,5 @@
 -- A type at one level.
-use Rattle.std.proofs.Common.{◌≡◌, ℕ, List, [], ◌∷◌, length, get_or, refl}
+use Rattle.std.proofs.Common.{◌≡◌, List, [], ◌∷◌, length, get_or, refl}
 use Rattle.cic_names.specs.declared.level.Atom.{Atom}
 use Rattle.cic_names.specs.Orders.{level_bytes}
 use Rattle.cic_terms.specs.Tree.{typ}

@@ -1,14 +1,14 @@
 -- Functions of a fix as they are written, one after another.
-use Rattle.std.proofs.Common.{◌≡◌, ℕ, suc, ◌+◌, ◌<◌, ◌^◌, List, [], ◌∷◌, ◌++◌, length, take, drop, refl, ap, sym, ◌∙◌, subst, arith, append_assoc, append-nil, length-append}
+use Rattle.std.proofs.Common.{◌≡◌, ℕ, suc, ◌+◌, List, [], ◌∷◌, ◌++◌, length, take, drop, refl, ap, sym, ◌∙◌, append_assoc, append-nil, length-append}
 use Rattle.std.proofs.lemmas.List.{drop_at, take_at}
 use Rattle.cic_names.specs.Orders.{digits}
-use Rattle.cic_terms.specs.Tree.{Shape, Children, no_child, child, many, join, fix}
-use Rattle.cic_terms.specs.Denotes.{tree, terms, term_list, domain_count, body_parts, body_list, shape, shape_list}
+use Rattle.cic_terms.specs.Tree.{Children, no_child, child, many, join}
+use Rattle.cic_terms.specs.Denotes.{tree, terms, term_list, domain_count, body_parts, body_list, shape_list}
 use Rattle.cic_terms.specs.declared.term.Term.{Term}
 use Rattle.cic_terms.specs.declared.term.FixBody.{FixBody}
 use Rattle.term_format.specs.Spelling.{joined, part_bytes, term_bytes, function_bytes}
-use Rattle.term_format.specs.Storable.{HasRow, HaveRows, FewDomains}
-use Rattle.term_codec.specs.calls.Functions.{one_bytes, all_bytes, Writable, AreWritable}
+use Rattle.term_format.specs.Storable.{HaveRows, FewDomains}
+use Rattle.term_codec.specs.calls.Functions.{all_bytes, AreWritable}
 
 parts_join : (a b : Children) → part_bytes (join a b) ≡ part_bytes a ++ part_bytes b
 parts_join no_child b = refl

@@ -1,5 +1,5 @@
 -- Matches and fixes, written part after part.
-use Rattle.std.proofs.Common.{◌≡◌, ℕ, suc, ◌+◌, ◌≤◌, ◌<◌, ◌^◌, List, [], ◌∷◌, ◌++◌, length, drop, max, refl, ap, sym, ◌∙◌, subst, arith, append_assoc}
+use Rattle.std.proofs.Common.{◌≡◌, ℕ, suc, ◌+◌, ◌≤◌, ◌<◌, List, [], ◌∷◌, ◌++◌, length, max, refl, ap, sym, ◌∙◌, subst, arith, append_assoc}
 use Rattle.std.specs.Prelude.{Result, Ok, Err, OnOk}
 use Rattle.cic_names.specs.Orders.{digits}
 use Rattle.cic_names.specs.declared.name.GlobalId.{GlobalId}
@@ -11,7 +11,7 @@ use Rattle.cic_terms.specs.declared.term.Terms.{Terms}
 use Rattle.cic_terms.specs.declared.term.Branch.{Branch}
 use Rattle.cic_terms.specs.declared.term.FixBody.{FixBody}
 use Rattle.cic_terms.proofs.Children.{depth_join}
-use Rattle.term_format.specs.Spelling.{joined, id_bytes, part_bytes, term_bytes, branch_bytes, function_bytes, count_of}
+use Rattle.term_format.specs.Spelling.{joined, id_bytes, part_bytes, term_bytes, branch_bytes, count_of}
 use Rattle.term_codec.specs.calls.Functions.{one_bytes, all_bytes, Writable, AreWritable}
 use Rattle.term_codec.proofs.Written.{count_terms, functions_bytes, shape_count}
 

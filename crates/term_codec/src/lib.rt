@@ -5,11 +5,13 @@ mod constraints;
 mod encoding;
 mod faults;
 mod fields;
+mod making;
 mod reading;
+mod terms;
 mod writing;
 mod writing_terms;
 
 pub use encoding::{encode_constraints, encode_term};
 pub use faults::DecodeFault;
-pub use reading::{decode_constraints, level_at, name_at};
+pub use reading::{decode_constraints, decode_term, level_at, name_at, term_at};
 pub use seg_format::Bytes;

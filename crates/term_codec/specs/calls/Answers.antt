@@ -1,5 +1,5 @@
 -- What a reader of the program answers.
-use Rattle.std.specs.Prelude.{ℕ, ◌≡◌, ◌-◌, ◌≤◌, ◌<◌, ◌^◌, List, length, drop, Option, Some, None, Result, IfOk, OnOk, IfErr}
+use Rattle.std.specs.Prelude.{ℕ, ◌≡◌, ◌-◌, ◌≤◌, ◌<◌, ◌^◌, List, length, drop, Result, IfOk, OnOk, IfErr}
 use Rattle.cic_names.specs.Identifier.{IsIdentifier}
 use Rattle.seg_format.specs.declared.faults.Defect.TheVariants.{Name as NoName}
 use Rattle.seg_format.specs.declared.layout.Segment.{Segment}

@@ -1,5 +1,5 @@
 -- The functions of a fix, as they are written and as they are read.
-use Rattle.std.specs.Prelude.{ℕ, ◌+◌, ◌++◌, ◌<◌, ◌^◌, List, [], ◌∷◌, length}
+use Rattle.std.specs.Prelude.{ℕ, ◌++◌, ◌<◌, ◌^◌, List, [], ◌∷◌}
 use Rattle.cic_names.specs.Orders.{digits}
 use Rattle.cic_terms.specs.Tree.{Shape, many, Children, child, no_child}
 use Rattle.cic_terms.specs.Denotes.{tree, terms, bodies, shapes, body_list, body_parts, domain_count, shape, shape_list}

@@ -1,9 +1,7 @@
-use Rattle.std.proofs.Common.{◌≡◌, ◌-◌, ◌+◌, suc, ap, sym, ◌∙◌, drop, length, arith, subst}
+use Rattle.std.proofs.Common.{◌-◌, ◌+◌, ◌∙◌, drop, length}
 use Rattle.std.proofs.lemmas.Result.{err_from_is_err_and}
-use Rattle.std.specs.Prelude.{Some}
 use Rattle.term_codec.proofs.Ends.{stops_same, one_less, none_less}
-use Rattle.term_codec.proofs.Inserting.{Below, with_items, count_then, item_more, item_stops, item_ends, next_above, below_more, goes_last}
-use Rattle.term_format.specs.ConstraintReading.{read_items}
+use Rattle.term_codec.proofs.Inserting.{count_then, item_more, item_stops, item_ends, next_above, below_more, goes_last}
 use Rattle.term_codec.proofs.constraints.read_constraints.Goals as goal
 
 pub returns-in_err-one : goal.returns-in_err-one

@@ -1,4 +1,4 @@
-use Rattle.std.proofs.Common.{◌≡◌, ℕ, ◌+◌, ◌-◌, ◌≤◌, ap, sym, ◌∙◌, drop, take, length, arith, refl}
+use Rattle.std.proofs.Common.{◌≡◌, ◌+◌, ◌-◌, ap, sym, ◌∙◌, drop, take, arith}
 use Rattle.term_format.specs.Reading.{value, read_byte}
 use Rattle.term_codec.proofs.Places.{cut_short, name_cut, name_made}
 use Rattle.term_codec.proofs.fields.read_name.Goals as goal

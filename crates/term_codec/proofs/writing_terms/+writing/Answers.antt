@@ -1,5 +1,5 @@
-use Rattle.std.proofs.Common.{◌≡◌, ◌+◌, ◌≤◌, ◌<◌, ◌^◌, ◌∷◌, ◌++◌, drop, length, ap, sym, ◌∙◌, subst, arith}
-use Rattle.cic_terms.specs.Denotes.{tree, branches, bodies, shapes, branch_list, body_list, shape_list}
+use Rattle.std.proofs.Common.{◌≡◌, ◌+◌, ◌<◌, ◌^◌, ◌++◌, drop, length, ap, sym, ◌∙◌, subst, arith}
+use Rattle.cic_terms.specs.Denotes.{tree, branches, bodies, shapes, branch_list, body_list}
 use Rattle.cic_terms.specs.Sizes.{depth_tree, depth_children}
 use Rattle.cic_terms.proofs.Children.{drop_at}
 use Rattle.term_format.specs.Spelling.{count_of, term_bytes}
