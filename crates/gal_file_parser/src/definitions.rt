@@ -22,13 +22,13 @@ use gal_term_parser::{Fault, Parser};
 pub(crate) struct Head<'a> {
     pub name: Identifier<'a>,
     pub groups: Groups<'a>,
-    pub ty: Box<Raw<'a>>,
+    pub ty: Raw<'a>,
 }
 
 // A name, groups and a type.
 #[tactic(auto, using(gal_grammar::proofs::Complete::act_runs))]
 fn read_head<'a>(parser: &mut Parser<'a>) -> Result<Head<'a>, Fault>
-    ensures reads { TakesAt false (λ vs. vs) (λ h vs. term (V.tree h.ty.value) ∷ groups (V.groups h.groups) ∷ a_name (V.identifier h.name) ∷ vs) result (head 0) (left parser.old) (left parser.new) }
+    ensures reads { TakesAt false (λ vs. vs) (λ h vs. term (V.tree h.ty) ∷ groups (V.groups h.groups) ∷ a_name (V.identifier h.name) ∷ vs) result (head 0) (left parser.old) (left parser.new) }
     ensures on { length (left parser.new) ≤ length (left parser.old) }
 {
     let name = parser.identifier()?;
@@ -50,7 +50,7 @@ fn read_given_definition<'a>(
     front: Head<'a>,
     list: &mut Commands<'a>,
 ) -> Result<(), Fault>
-    ensures reads { Takes (λ vs. term (V.tree front.entry.ty.value) ∷ groups (V.groups front.entry.groups) ∷ a_name (V.identifier front.entry.name) ∷ commands (C.commands list.old) ∷ vs) (λ _ vs. commands (C.commands list.new) ∷ vs) result (a_term 0 ∷ m M.Stop ∷ act say_definition ∷ []) (left parser.old) (left parser.new) }
+    ensures reads { Takes (λ vs. term (V.tree front.entry.ty) ∷ groups (V.groups front.entry.groups) ∷ a_name (V.identifier front.entry.name) ∷ commands (C.commands list.old) ∷ vs) (λ _ vs. commands (C.commands list.new) ∷ vs) result (a_term 0 ∷ m M.Stop ∷ act say_definition ∷ []) (left parser.old) (left parser.new) }
     ensures on { length (left parser.new) ≤ length (left parser.old) }
 {
     let body = parser.term(1, false)?;
@@ -71,7 +71,7 @@ fn read_proved_definition<'a>(
     front: Head<'a>,
     list: &mut Commands<'a>,
 ) -> Result<(), Fault>
-    ensures reads { Takes (λ vs. term (V.tree front.entry.ty.value) ∷ groups (V.groups front.entry.groups) ∷ a_name (V.identifier front.entry.name) ∷ commands (C.commands list.old) ∷ vs) (λ _ vs. commands (C.commands list.new) ∷ vs) result (m M.Stop ∷ act (push (using not_said)) ∷ nt 0 k_proof ∷ act say_definition_by ∷ []) (left parser.old) (left parser.new) }
+    ensures reads { Takes (λ vs. term (V.tree front.entry.ty) ∷ groups (V.groups front.entry.groups) ∷ a_name (V.identifier front.entry.name) ∷ commands (C.commands list.old) ∷ vs) (λ _ vs. commands (C.commands list.new) ∷ vs) result (m M.Stop ∷ act (push (using not_said)) ∷ nt 0 k_proof ∷ act say_definition_by ∷ []) (left parser.old) (left parser.new) }
     ensures on { length (left parser.new) ≤ length (left parser.old) }
 {
     parser.mark(Mark::Stop)?;
@@ -92,7 +92,7 @@ fn read_defined<'a>(
     front: Head<'a>,
     list: &mut Commands<'a>,
 ) -> Result<(), Fault>
-    ensures reads { Takes (λ vs. term (V.tree front.entry.ty.value) ∷ groups (V.groups front.entry.groups) ∷ a_name (V.identifier front.entry.name) ∷ commands (C.commands list.old) ∷ vs) (λ _ vs. commands (C.commands list.new) ∷ vs) result (nt 0 k_definition ∷ []) (left parser.old) (left parser.new) }
+    ensures reads { Takes (λ vs. term (V.tree front.entry.ty) ∷ groups (V.groups front.entry.groups) ∷ a_name (V.identifier front.entry.name) ∷ commands (C.commands list.old) ∷ vs) (λ _ vs. commands (C.commands list.new) ∷ vs) result (nt 0 k_definition ∷ []) (left parser.old) (left parser.new) }
     ensures on { length (left parser.new) ≤ length (left parser.old) }
 {
     if parser.take(Mark::Assign) {

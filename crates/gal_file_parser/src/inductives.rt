@@ -9,6 +9,7 @@ ghost use Rattle.gal_grammar.specs.Kinds.{tok, act, nt, k_ctor, k_ctor_type, k_c
 ghost use Rattle.gal_grammar.specs.Rules.{m, a_term, ctor_behind};
 ghost use Rattle.gal_grammar.specs.Terms.{no_groups};
 ghost use Rattle.gal_raw.specs.Commands as C;
+ghost use Rattle.gal_raw.specs.Denotes as V;
 ghost use Rattle.gal_term_parser.specs.Left.{left};
 ghost use Rattle.gal_term_parser.specs.calls.Steps.{Takes, TakesAt, begins};
 
@@ -33,8 +34,8 @@ fn no_inductives<'a>(alloc: Global) -> Vec<Inductive<'a>>
 
 // The type of a constructor, if it is there.
 #[tactic(auto, using(gal_grammar::proofs::Complete::act_runs, crate::proofs::Ctors::no_ctor_type))]
-fn read_constructor_type<'a>(parser: &mut Parser<'a>) -> Result<Option<Box<Raw<'a>>>, Fault>
-    ensures reads { TakesAt true (λ vs. vs) (λ t vs. maybe_term (option_map C.boxed_tree t) ∷ vs) result (act (push (maybe_term None)) ∷ nt 0 k_ctor_type ∷ []) (left parser.old) (left parser.new) }
+fn read_constructor_type<'a>(parser: &mut Parser<'a>) -> Result<Option<Raw<'a>>, Fault>
+    ensures reads { TakesAt true (λ vs. vs) (λ t vs. maybe_term (option_map V.tree t) ∷ vs) result (act (push (maybe_term None)) ∷ nt 0 k_ctor_type ∷ []) (left parser.old) (left parser.new) }
     ensures on { length (left parser.new) ≤ length (left parser.old) }
 {
     if !parser.take(Mark::Colon) {

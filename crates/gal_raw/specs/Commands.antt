@@ -1,12 +1,8 @@
 -- The command that a value of the program stands for.
 use Rattle.std.specs.Prelude.{List, map}
 use Rattle.std.specs.Option.{option_map}
-use Rattle.std.specs.declared.boxed.Box.{Box}
-use Rattle.std.specs.declared.alloc.Global.{Global}
-use Rattle.gal_grammar.specs.Terms as S
 use Rattle.gal_grammar.specs.Commands as C
 use Rattle.gal_raw.specs.Denotes.{tree, identifier, qualified, groups, functions}
-use Rattle.gal_raw.specs.declared.terms.Raw.{Raw}
 use Rattle.gal_raw.specs.declared.commands.Level.{Level}
 use Rattle.gal_raw.specs.declared.commands.Level.TheVariants as L
 use Rattle.gal_raw.specs.declared.commands.Relation.{Relation}
@@ -38,14 +34,11 @@ relation R.Equal = C.equal
 abbrev pub constraint : Constraint → C.Cons
 constraint c = C.cons (level c.left) (relation c.relation) (level c.right)
 
-abbrev pub boxed_tree : Box Raw Global → S.Raw
-boxed_tree t = tree t.value
-
 abbrev pub constructor : Constructor → C.Ctor
-constructor c = C.ctor (identifier c.name) (groups c.groups) (option_map boxed_tree c.ty)
+constructor c = C.ctor (identifier c.name) (groups c.groups) (option_map tree c.ty)
 
 abbrev pub inductive : Inductive → C.Ind
-inductive i = C.ind (identifier i.name) (groups i.groups) (tree i.ty.value) (map constructor i.constructors.items)
+inductive i = C.ind (identifier i.name) (groups i.groups) (tree i.ty) (map constructor i.constructors.items)
 
 abbrev pub flag : Flag → C.Flag
 flag F.Plain = C.plain
@@ -64,7 +57,7 @@ ending E.Defined = C.defined
 ending E.Admitted = C.given_up
 
 abbrev pub proof : Proof → C.Proof
-proof (P.Given u t e) = C.proof (using u) (tree t.value) (ending e)
+proof (P.Given u t e) = C.proof (using u) (tree t) (ending e)
 proof (P.Missing u) = C.no_proof (using u)
 
 abbrev pub command : Command → C.Command
@@ -73,12 +66,12 @@ command (K.Universe xs) = C.universe (map identifier xs.items)
 command (K.Constraint cs) = C.constraint (map constraint cs.items)
 command (K.Axiom g) = C.axiom_of (groups g)
 command (K.Variable g) = C.variable_of (groups g)
-command (K.Definition x g a t) = C.definition (identifier x) (groups g) (tree a.value) (tree t.value)
-command (K.DefinitionBy x g a p) = C.definition_by (identifier x) (groups g) (tree a.value) (proof p)
-command (K.Local x g a t) = C.local_of (identifier x) (groups g) (tree a.value) (tree t.value)
+command (K.Definition x g a t) = C.definition (identifier x) (groups g) (tree a) (tree t)
+command (K.DefinitionBy x g a p) = C.definition_by (identifier x) (groups g) (tree a) (proof p)
+command (K.Local x g a t) = C.local_of (identifier x) (groups g) (tree a) (tree t)
 command (K.Fixpoint fs) = C.fixpoint (functions fs)
 command (K.Inductive is) = C.inductive (map inductive is.items)
-command (K.Theorem x g a p) = C.theorem (identifier x) (groups g) (tree a.value) (proof p)
+command (K.Theorem x g a p) = C.theorem (identifier x) (groups g) (tree a) (proof p)
 command (K.Section x) = C.section (identifier x)
 command (K.End x) = C.finish (identifier x)
 

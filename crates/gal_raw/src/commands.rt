@@ -37,7 +37,7 @@ pub struct Constraint<'a> {
 pub struct Constructor<'a> {
     pub name: Identifier<'a>,
     pub groups: Groups<'a>,
-    pub ty: Option<Box<Raw<'a>>>,
+    pub ty: Option<Raw<'a>>,
 }
 
 /// An inductive type of a block.
@@ -45,7 +45,7 @@ pub struct Constructor<'a> {
 pub struct Inductive<'a> {
     pub name: Identifier<'a>,
     pub groups: Groups<'a>,
-    pub ty: Box<Raw<'a>>,
+    pub ty: Raw<'a>,
     pub constructors: Vec<Constructor<'a>>,
 }
 
@@ -79,7 +79,7 @@ pub enum Ending {
 pub enum Proof<'a> {
     Given {
         using: Using<'a>,
-        body: Box<Raw<'a>>,
+        body: Raw<'a>,
         ending: Ending,
     },
     Missing {
@@ -103,29 +103,29 @@ pub enum Command<'a> {
     Definition {
         name: Identifier<'a>,
         groups: Groups<'a>,
-        ty: Box<Raw<'a>>,
-        body: Box<Raw<'a>>,
+        ty: Raw<'a>,
+        body: Raw<'a>,
     },
     /// A definition whose body a proof gives.
     DefinitionBy {
         name: Identifier<'a>,
         groups: Groups<'a>,
-        ty: Box<Raw<'a>>,
+        ty: Raw<'a>,
         proof: Proof<'a>,
     },
     /// `Let`
     Local {
         name: Identifier<'a>,
         groups: Groups<'a>,
-        ty: Box<Raw<'a>>,
-        body: Box<Raw<'a>>,
+        ty: Raw<'a>,
+        body: Raw<'a>,
     },
     Fixpoint(Functions<'a>),
     Inductive(Vec<Inductive<'a>>),
     Theorem {
         name: Identifier<'a>,
         groups: Groups<'a>,
-        ty: Box<Raw<'a>>,
+        ty: Raw<'a>,
         proof: Proof<'a>,
     },
     Section(Identifier<'a>),

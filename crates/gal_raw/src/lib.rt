@@ -13,5 +13,6 @@ pub use commands::{
 };
 pub use names::{Binder, Identifier, QualifiedName, Within};
 pub use terms::{
-    Application, Branch, Branches, Function, Functions, Group, Groups, LetIn, MatchOf, Raw,
+    Application, ArrowOf, Branch, Branches, FixOf, Function, Functions, Group, Groups, LetIn,
+    MatchOf, Raw,
 };

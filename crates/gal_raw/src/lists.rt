@@ -10,23 +10,22 @@ use crate::terms::{Application, Branch, Branches, Function, Functions, Group, Gr
 use std::alloc::{AllocError, Global};
 
 impl<'a> Application<'a> {
-    /// The application of the term to one argument.
-    pub fn new(alloc: Global, head: Box<Raw<'a>>, first: Box<Raw<'a>>) -> Application<'a>
-        ensures { application result ≡ S.app (tree head.entry.value) (tree first.entry.value) }
+    /// The application of the term to no arguments yet.
+    pub fn new(alloc: Global, head: Box<Raw<'a>>) -> Application<'a>
+        ensures { application result ≡ tree head.entry.value }
     {
         Application {
             head,
-            first,
-            further: Vec::new(alloc),
+            arguments: Vec::new(alloc),
         }
     }
 
     /// One more argument.
     #[tactic(auto, using(crate::proofs::Rows::applied_more))]
-    pub fn push(&mut self, argument: Box<Raw<'a>>) -> Result<(), AllocError>
-        ensures { OnOk result (application self.new ≡ S.app (application self.old) (tree argument.entry.value)) }
+    pub fn push(&mut self, argument: Raw<'a>) -> Result<(), AllocError>
+        ensures { OnOk result (application self.new ≡ S.app (application self.old) (tree argument.entry)) }
     {
-        match self.further.push(argument) {
+        match self.arguments.push(argument) {
             Ok(()) => Ok(()),
             Err(_) => Err(AllocError),
         }
@@ -46,8 +45,8 @@ impl<'a> Groups<'a> {
 
     /// One more group of names with their type.
     #[tactic(auto, using(crate::proofs::Rows::groups_out, crate::proofs::Rows::groups_roll, crate::proofs::Rows::group_more))]
-    pub fn push(&mut self, binders: Vec<Binder<'a>>, ty: Box<Raw<'a>>) -> Result<(), AllocError>
-        ensures { OnOk result (groups self.new ≡ S.group (groups self.old) (map binder binders.entry.items) (tree ty.entry.value)) }
+    pub fn push(&mut self, binders: Vec<Binder<'a>>, ty: Raw<'a>) -> Result<(), AllocError>
+        ensures { OnOk result (groups self.new ≡ S.group (groups self.old) (map binder binders.entry.items) (tree ty.entry)) }
     {
         match self.items.push(Group { binders, ty }) {
             Ok(()) => Ok(()),
@@ -82,10 +81,10 @@ impl<'a> Functions<'a> {
         name: Identifier<'a>,
         among: Groups<'a>,
         structural: Option<Identifier<'a>>,
-        ty: Box<Raw<'a>>,
-        body: Box<Raw<'a>>,
+        ty: Raw<'a>,
+        body: Raw<'a>,
     ) -> Result<(), AllocError>
-        ensures { OnOk result (functions self.new ≡ S.function (functions self.old) (identifier name.entry) (groups among.entry) (option_map identifier structural.entry) (tree ty.entry.value) (tree body.entry.value)) }
+        ensures { OnOk result (functions self.new ≡ S.function (functions self.old) (identifier name.entry) (groups among.entry) (option_map identifier structural.entry) (tree ty.entry) (tree body.entry)) }
     {
         match self.items.push(Function {
             name,
@@ -125,9 +124,9 @@ impl<'a> Branches<'a> {
         &mut self,
         constructor: QualifiedName<'a>,
         names: Vec<Binder<'a>>,
-        body: Box<Raw<'a>>,
+        body: Raw<'a>,
     ) -> Result<(), AllocError>
-        ensures { OnOk result (branches self.new ≡ S.branch (branches self.old) (qualified constructor.entry) (map binder names.entry.items) (tree body.entry.value)) }
+        ensures { OnOk result (branches self.new ≡ S.branch (branches self.old) (qualified constructor.entry) (map binder names.entry.items) (tree body.entry)) }
     {
         match self.items.push(Branch {
             constructor,

@@ -1,17 +1,17 @@
-//! Terms made of their parts, each in a box.
+//! Terms made of their parts.
 ghost use Rattle.std.specs.Prelude.{◌≡◌, IfOk};
 ghost use Rattle.std.specs.Option.{option_map};
 ghost use Rattle.gal_grammar.specs.Terms as S;
 ghost use Rattle.gal_raw.specs.Denotes.{tree, identifier, qualified, binder, within, application, groups, functions, branches};
 
 use crate::names::{Binder, Identifier, QualifiedName, Within};
-use crate::terms::{Application, Branches, Functions, Groups, LetIn, MatchOf, Raw};
+use crate::terms::{Application, ArrowOf, Branches, FixOf, Functions, Groups, LetIn, MatchOf, Raw};
 use std::alloc::{AllocError, Global};
 
-fn boxed<'a>(alloc: Global, term: Raw<'a>) -> Result<Box<Raw<'a>>, AllocError>
-    ensures { IfOk result (λ t. t.value ≡ term.entry) }
+fn boxed<T: Drop>(alloc: Global, content: T) -> Result<Box<T>, AllocError>
+    ensures { IfOk result (λ b. b.value ≡ content) }
 {
-    match Box::new(alloc, term) {
+    match Box::new(alloc, content) {
         Ok(made) => Ok(made),
         Err(_) => Err(AllocError),
     }
@@ -19,103 +19,88 @@ fn boxed<'a>(alloc: Global, term: Raw<'a>) -> Result<Box<Raw<'a>>, AllocError>
 
 impl<'a> Raw<'a> {
     /// `Prop`
-    #[inline(never)]
-    pub fn prop(alloc: Global) -> Result<Box<Raw<'a>>, AllocError>
-        ensures { IfOk result (λ t. tree t.value ≡ S.prop) }
+    pub fn prop() -> Raw<'a>
+        ensures { tree result ≡ S.prop }
     {
-        boxed(alloc, Raw::Prop)
+        Raw::Prop
     }
 
     /// `Set`
-    #[inline(never)]
-    pub fn set(alloc: Global) -> Result<Box<Raw<'a>>, AllocError>
-        ensures { IfOk result (λ t. tree t.value ≡ S.set) }
+    pub fn set() -> Raw<'a>
+        ensures { tree result ≡ S.set }
     {
-        boxed(alloc, Raw::Set)
+        Raw::Set
     }
 
     /// `Type` of a level that is not said.
-    #[inline(never)]
-    pub fn type_any(alloc: Global) -> Result<Box<Raw<'a>>, AllocError>
-        ensures { IfOk result (λ t. tree t.value ≡ S.type_any) }
+    pub fn type_any() -> Raw<'a>
+        ensures { tree result ≡ S.type_any }
     {
-        boxed(alloc, Raw::Type)
+        Raw::Type
     }
 
     /// `Type@{level}`
-    #[inline(never)]
-    pub fn type_at(alloc: Global, level: QualifiedName<'a>) -> Result<Box<Raw<'a>>, AllocError>
-        ensures { IfOk result (λ t. tree t.value ≡ S.type_at (qualified level.entry)) }
+    pub fn type_at(level: QualifiedName<'a>) -> Raw<'a>
+        ensures { tree result ≡ S.type_at (qualified level.entry) }
     {
-        boxed(alloc, Raw::TypeAt(level))
+        Raw::TypeAt(level)
     }
 
     /// A name.
-    #[inline(never)]
-    pub fn reference(alloc: Global, name: QualifiedName<'a>) -> Result<Box<Raw<'a>>, AllocError>
-        ensures { IfOk result (λ t. tree t.value ≡ S.ref (qualified name.entry)) }
+    pub fn reference(name: QualifiedName<'a>) -> Raw<'a>
+        ensures { tree result ≡ S.ref (qualified name.entry) }
     {
-        boxed(alloc, Raw::Reference(name))
+        Raw::Reference(name)
     }
 
     /// A term and its arguments.
-    #[inline(never)]
     #[tactic(auto, using(crate::proofs::Rows::application_roll))]
-    pub fn application(alloc: Global, parts: Application<'a>) -> Result<Box<Raw<'a>>, AllocError>
-        ensures { IfOk result (λ t. tree t.value ≡ application parts.entry) }
+    pub fn application(parts: Application<'a>) -> Raw<'a>
+        ensures { tree result ≡ application parts.entry }
     {
-        boxed(alloc, Raw::Application(parts))
+        Raw::Application(parts)
     }
 
     /// `from -> to`
-    #[inline(never)]
-    pub fn arrow(
-        alloc: Global,
-        from: Box<Raw<'a>>,
-        to: Box<Raw<'a>>,
-    ) -> Result<Box<Raw<'a>>, AllocError>
-        ensures { IfOk result (λ t. tree t.value ≡ S.arrow (tree from.entry.value) (tree to.entry.value)) }
+    pub fn arrow(alloc: Global, from: Raw<'a>, to: Raw<'a>) -> Result<Raw<'a>, AllocError>
+        ensures { IfOk result (λ t. tree t ≡ S.arrow (tree from.entry) (tree to.entry)) }
     {
-        boxed(alloc, Raw::Arrow(from, to))
+        let parts = boxed(alloc, ArrowOf { from, to })?;
+        Ok(Raw::Arrow(parts))
     }
 
     /// `forall among, body`
-    #[inline(never)]
-    pub fn product(
-        alloc: Global,
-        among: Groups<'a>,
-        body: Box<Raw<'a>>,
-    ) -> Result<Box<Raw<'a>>, AllocError>
-        ensures { IfOk result (λ t. tree t.value ≡ S.prod (groups among.entry) (tree body.entry.value)) }
+    pub fn product(alloc: Global, among: Groups<'a>, body: Raw<'a>) -> Result<Raw<'a>, AllocError>
+        ensures { IfOk result (λ t. tree t ≡ S.prod (groups among.entry) (tree body.entry)) }
     {
-        boxed(alloc, Raw::Product(among, body))
+        let body = boxed(alloc, body)?;
+        Ok(Raw::Product(among, body))
     }
 
     /// `fun among => body`
-    #[inline(never)]
     pub fn abstraction(
         alloc: Global,
         among: Groups<'a>,
-        body: Box<Raw<'a>>,
-    ) -> Result<Box<Raw<'a>>, AllocError>
-        ensures { IfOk result (λ t. tree t.value ≡ S.func (groups among.entry) (tree body.entry.value)) }
+        body: Raw<'a>,
+    ) -> Result<Raw<'a>, AllocError>
+        ensures { IfOk result (λ t. tree t ≡ S.func (groups among.entry) (tree body.entry)) }
     {
-        boxed(alloc, Raw::Abstraction(among, body))
+        let body = boxed(alloc, body)?;
+        Ok(Raw::Abstraction(among, body))
     }
 
     /// `let name among : ty := body in rest`
-    #[inline(never)]
     pub fn let_in(
         alloc: Global,
         name: Identifier<'a>,
         among: Groups<'a>,
-        ty: Box<Raw<'a>>,
-        body: Box<Raw<'a>>,
-        rest: Box<Raw<'a>>,
-    ) -> Result<Box<Raw<'a>>, AllocError>
-        ensures { IfOk result (λ t. tree t.value ≡ S.let_in (identifier name.entry) (groups among.entry) (tree ty.entry.value) (tree body.entry.value) (tree rest.entry.value)) }
+        ty: Raw<'a>,
+        body: Raw<'a>,
+        rest: Raw<'a>,
+    ) -> Result<Raw<'a>, AllocError>
+        ensures { IfOk result (λ t. tree t ≡ S.let_in (identifier name.entry) (groups among.entry) (tree ty.entry) (tree body.entry) (tree rest.entry)) }
     {
-        match Box::new(
+        let parts = boxed(
             alloc,
             LetIn {
                 name,
@@ -124,37 +109,40 @@ impl<'a> Raw<'a> {
                 body,
                 rest,
             },
-        ) {
-            Ok(parts) => boxed(alloc, Raw::Let(parts)),
-            Err(_) => Err(AllocError),
-        }
+        )?;
+        Ok(Raw::Let(parts))
     }
 
     /// `fix`, with the name behind the word `for`.
-    #[inline(never)]
     pub fn fix(
         alloc: Global,
         block: Functions<'a>,
         chosen: Option<Identifier<'a>>,
-    ) -> Result<Box<Raw<'a>>, AllocError>
-        ensures { IfOk result (λ t. tree t.value ≡ S.fix_of (functions block.entry) (option_map identifier chosen.entry)) }
+    ) -> Result<Raw<'a>, AllocError>
+        ensures { IfOk result (λ t. tree t ≡ S.fix_of (functions block.entry) (option_map identifier chosen.entry)) }
     {
-        boxed(alloc, Raw::Fix(block, chosen))
+        let parts = boxed(
+            alloc,
+            FixOf {
+                functions: block,
+                chosen,
+            },
+        )?;
+        Ok(Raw::Fix(parts))
     }
 
     /// `match value as name in inside return motive with cases end`
-    #[inline(never)]
     pub fn match_of(
         alloc: Global,
-        value: Box<Raw<'a>>,
+        value: Raw<'a>,
         name: Option<Binder<'a>>,
         inside: Option<Within<'a>>,
-        motive: Box<Raw<'a>>,
+        motive: Raw<'a>,
         cases: Branches<'a>,
-    ) -> Result<Box<Raw<'a>>, AllocError>
-        ensures { IfOk result (λ t. tree t.value ≡ S.match_of (tree value.entry.value) (option_map binder name.entry) (option_map within inside.entry) (tree motive.entry.value) (branches cases.entry)) }
+    ) -> Result<Raw<'a>, AllocError>
+        ensures { IfOk result (λ t. tree t ≡ S.match_of (tree value.entry) (option_map binder name.entry) (option_map within inside.entry) (tree motive.entry) (branches cases.entry)) }
     {
-        match Box::new(
+        let parts = boxed(
             alloc,
             MatchOf {
                 value,
@@ -163,9 +151,7 @@ impl<'a> Raw<'a> {
                 motive,
                 branches: cases,
             },
-        ) {
-            Ok(parts) => boxed(alloc, Raw::Match(parts)),
-            Err(_) => Err(AllocError),
-        }
+        )?;
+        Ok(Raw::Match(parts))
     }
 }

@@ -13,16 +13,30 @@ pub enum Raw<'a> {
     TypeAt(QualifiedName<'a>),
     Reference(QualifiedName<'a>),
     Application(Application<'a>),
-    /// `from -> to`
-    Arrow(Box<Raw<'a>>, Box<Raw<'a>>),
+    Arrow(Box<ArrowOf<'a>>),
     /// `forall`
     Product(Groups<'a>, Box<Raw<'a>>),
     /// `fun`
     Abstraction(Groups<'a>, Box<Raw<'a>>),
     Let(Box<LetIn<'a>>),
-    /// The functions, and the name behind the word `for`.
-    Fix(Functions<'a>, Option<Identifier<'a>>),
+    Fix(Box<FixOf<'a>>),
     Match(Box<MatchOf<'a>>),
+}
+
+/// `from -> to`
+#[cycle(raw)]
+#[derive(Drop)]
+pub struct ArrowOf<'a> {
+    pub from: Raw<'a>,
+    pub to: Raw<'a>,
+}
+
+/// The functions of a `fix`, and the name behind the word `for`.
+#[cycle(raw)]
+#[derive(Drop)]
+pub struct FixOf<'a> {
+    pub functions: Functions<'a>,
+    pub chosen: Option<Identifier<'a>>,
 }
 
 /// `let name groups : ty := body in rest`
@@ -31,29 +45,28 @@ pub enum Raw<'a> {
 pub struct LetIn<'a> {
     pub name: Identifier<'a>,
     pub groups: Groups<'a>,
-    pub ty: Box<Raw<'a>>,
-    pub body: Box<Raw<'a>>,
-    pub rest: Box<Raw<'a>>,
+    pub ty: Raw<'a>,
+    pub body: Raw<'a>,
+    pub rest: Raw<'a>,
 }
 
 /// `match value as name in within return motive with branches end`
 #[cycle(raw)]
 #[derive(Drop)]
 pub struct MatchOf<'a> {
-    pub value: Box<Raw<'a>>,
+    pub value: Raw<'a>,
     pub name: Option<Binder<'a>>,
     pub within: Option<Within<'a>>,
-    pub motive: Box<Raw<'a>>,
+    pub motive: Raw<'a>,
     pub branches: Branches<'a>,
 }
 
-/// A term and its arguments: the first, and those behind it in order.
+/// A term and its arguments, in order.
 #[cycle(raw)]
 #[derive(Drop)]
 pub struct Application<'a> {
     pub head: Box<Raw<'a>>,
-    pub first: Box<Raw<'a>>,
-    pub(crate) further: Vec<Box<Raw<'a>>>,
+    pub(crate) arguments: Vec<Raw<'a>>,
 }
 
 /// Names with their type.
@@ -61,7 +74,7 @@ pub struct Application<'a> {
 #[derive(Drop)]
 pub struct Group<'a> {
     pub binders: Vec<Binder<'a>>,
-    pub ty: Box<Raw<'a>>,
+    pub ty: Raw<'a>,
 }
 
 /// Groups of names, in order.
@@ -79,8 +92,8 @@ pub struct Function<'a> {
     pub groups: Groups<'a>,
     /// The name behind the word `struct`.
     pub structural: Option<Identifier<'a>>,
-    pub ty: Box<Raw<'a>>,
-    pub body: Box<Raw<'a>>,
+    pub ty: Raw<'a>,
+    pub body: Raw<'a>,
 }
 
 /// Functions, in order.
@@ -96,7 +109,7 @@ pub struct Functions<'a> {
 pub struct Branch<'a> {
     pub constructor: QualifiedName<'a>,
     pub names: Vec<Binder<'a>>,
-    pub body: Box<Raw<'a>>,
+    pub body: Raw<'a>,
 }
 
 /// Branches, in order.

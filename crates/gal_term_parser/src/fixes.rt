@@ -96,13 +96,9 @@ impl<'a> Parser<'a> {
 
     // A type and a body.
     #[cycle(terms)]
-    fn typed_body(
-        &mut self,
-        nesting: u32,
-        owned: bool,
-    ) -> Result<(Box<Raw<'a>>, Box<Raw<'a>>), Fault>
+    fn typed_body(&mut self, nesting: u32, owned: bool) -> Result<(Raw<'a>, Raw<'a>), Fault>
         requires { nesting ≤ 500 }
-        ensures reads { TakesAt owned (λ vs. vs) (λ p vs. term (V.tree p.1.value) ∷ term (V.tree p.0.value) ∷ vs) result (m M.Colon ∷ a_term nesting ∷ m M.Assign ∷ a_term nesting ∷ []) (left self.old) (left self.new) }
+        ensures reads { TakesAt owned (λ vs. vs) (λ p vs. term (V.tree p.1) ∷ term (V.tree p.0) ∷ vs) result (m M.Colon ∷ a_term nesting ∷ m M.Assign ∷ a_term nesting ∷ []) (left self.old) (left self.new) }
         ensures on { length (left self.new) ≤ length (left self.old) }
     {
         self.mark(Mark::Colon)?;
@@ -152,9 +148,9 @@ impl<'a> Parser<'a> {
     // Behind the word `fix`.
     #[cycle(terms)]
     #[tactic(auto, using(gal_grammar::proofs::Complete::act_runs))]
-    pub(crate) fn fix(&mut self, nesting: u32, owned: bool) -> Result<Box<Raw<'a>>, Fault>
+    pub(crate) fn fix(&mut self, nesting: u32, owned: bool) -> Result<Raw<'a>, Fault>
         requires { nesting ≤ 500 }
-        ensures reads { TakesAt owned (λ vs. vs) (λ t vs. term (V.tree t.value) ∷ vs) result (act (push (maybe_name None)) ∷ act (push (functions S.no_functions)) ∷ nt nesting k_function ∷ fix_tail nesting ∷ act mk_fix ∷ []) (left self.old) (left self.new) }
+        ensures reads { TakesAt owned (λ vs. vs) (λ t vs. term (V.tree t) ∷ vs) result (act (push (maybe_name None)) ∷ act (push (functions S.no_functions)) ∷ nt nesting k_function ∷ fix_tail nesting ∷ act mk_fix ∷ []) (left self.old) (left self.new) }
         ensures on { length (left self.new) ≤ length (left self.old) }
     {
         let mut block = Functions::new(self.alloc);

@@ -122,9 +122,9 @@ impl<'a> Parser<'a> {
     // The motive and the branches of a `match` without the word `in`.
     #[cycle(terms)]
     #[tactic(auto, using(gal_grammar::proofs::Complete::act_runs, gal_grammar::proofs::Equations::with_is))]
-    fn cases(&mut self, nesting: u32) -> Result<(Box<Raw<'a>>, Branches<'a>), Fault>
+    fn cases(&mut self, nesting: u32) -> Result<(Raw<'a>, Branches<'a>), Fault>
         requires { nesting ≤ 500 }
-        ensures reads { Takes (λ vs. vs) (λ p vs. branches (V.branches p.1) ∷ term (V.tree p.0.value) ∷ vs) result (a_term nesting ∷ nt nesting k_with ∷ []) (left self.old) (left self.new) }
+        ensures reads { Takes (λ vs. vs) (λ p vs. branches (V.branches p.1) ∷ term (V.tree p.0) ∷ vs) result (a_term nesting ∷ nt nesting k_with ∷ []) (left self.old) (left self.new) }
         ensures on { length (left self.new) ≤ length (left self.old) }
     {
         let motive = self.term(nesting + 1, true)?;
@@ -137,9 +137,9 @@ impl<'a> Parser<'a> {
     // The same of a `match` that may have no branches.
     #[cycle(terms)]
     #[tactic(auto, using(gal_grammar::proofs::Complete::act_runs, gal_grammar::proofs::Equations::with_any_is))]
-    fn any_cases(&mut self, nesting: u32) -> Result<(Box<Raw<'a>>, Branches<'a>), Fault>
+    fn any_cases(&mut self, nesting: u32) -> Result<(Raw<'a>, Branches<'a>), Fault>
         requires { nesting ≤ 500 }
-        ensures reads { Takes (λ vs. vs) (λ p vs. branches (V.branches p.1) ∷ term (V.tree p.0.value) ∷ vs) result (a_term nesting ∷ nt nesting k_with_any ∷ []) (left self.old) (left self.new) }
+        ensures reads { Takes (λ vs. vs) (λ p vs. branches (V.branches p.1) ∷ term (V.tree p.0) ∷ vs) result (a_term nesting ∷ nt nesting k_with_any ∷ []) (left self.old) (left self.new) }
         ensures on { length (left self.new) ≤ length (left self.old) }
     {
         let motive = self.term(nesting + 1, true)?;
@@ -152,9 +152,9 @@ impl<'a> Parser<'a> {
     // Behind the word `match`.
     #[cycle(terms)]
     #[tactic(auto, using(gal_grammar::proofs::Complete::act_runs))]
-    pub(crate) fn match_of(&mut self, nesting: u32) -> Result<Box<Raw<'a>>, Fault>
+    pub(crate) fn match_of(&mut self, nesting: u32) -> Result<Raw<'a>, Fault>
         requires { nesting ≤ 500 }
-        ensures reads { Takes (λ vs. vs) (λ t vs. term (V.tree t.value) ∷ vs) result (a_term nesting ∷ act (push (maybe_binder None)) ∷ nt nesting k_as ∷ act (push (maybe_within None)) ∷ nt nesting k_in ∷ act mk_match ∷ []) (left self.old) (left self.new) }
+        ensures reads { Takes (λ vs. vs) (λ t vs. term (V.tree t) ∷ vs) result (a_term nesting ∷ act (push (maybe_binder None)) ∷ nt nesting k_as ∷ act (push (maybe_within None)) ∷ nt nesting k_in ∷ act mk_match ∷ []) (left self.old) (left self.new) }
         ensures on { length (left self.new) ≤ length (left self.old) }
     {
         let value = self.term(nesting + 1, false)?;

@@ -36,6 +36,7 @@ pub struct Parser<'a> {
 }
 
 // The token's slice of the source.
+#[inline(always)]
 fn text_of<'a>(source: &'a [u8], token: &Token) -> Identifier<'a>
     ensures place { result.place ≡ token.now.place }
     ensures text { result.text.now ≡ take token.now.length (drop token.now.place source.now) }
@@ -49,6 +50,7 @@ fn text_of<'a>(source: &'a [u8], token: &Token) -> Identifier<'a>
     }
 }
 
+#[inline(always)]
 fn lexeme_of<'a>(source: &'a [u8], token: &Token) -> Lexeme<'a>
     ensures { lexeme result ≡ spelled source.now token.now }
 {
@@ -60,6 +62,7 @@ fn lexeme_of<'a>(source: &'a [u8], token: &Token) -> Lexeme<'a>
 }
 
 // The first token with its text, and those behind it.
+#[inline(always)]
 pub(crate) fn split_first<'a>(
     source: &'a [u8],
     tokens: &'a [Token],
@@ -100,6 +103,7 @@ impl<'a> Parser<'a> {
     }
 
     /// The next token, and those behind it. Nothing is read: the caller sets `rest` to those behind.
+    #[inline(always)]
     pub fn split(&self) -> Option<(Lexeme<'a>, &'a [Token])>
         ensures { MatchOption result (left self.now ≡ []) (λ p. left self.now ≡ lexeme p.0 ∷ all_spelled self.now.source.now p.1.now) }
     {
@@ -108,6 +112,7 @@ impl<'a> Parser<'a> {
 
     /// Reads the mark if it is the next token.
     #[tactic(auto, using(crate::proofs::Marks::same_mark, crate::proofs::Marks::other_mark))]
+    #[inline]
     pub fn take(&mut self, expected: Mark) -> bool
         ensures { MatchBool result (left self.old ≡ T.mark expected ∷ left self.new) ((begins (mark expected) (left self.old) ≡ false) × (left self.new ≡ left self.old)) }
     {
@@ -126,6 +131,7 @@ impl<'a> Parser<'a> {
 
     /// Reads the mark.
     #[tactic(auto, using(crate::proofs::Marks::mark_taken, crate::proofs::Marks::refused))]
+    #[inline]
     pub fn mark(&mut self, expected: Mark) -> Result<(), Fault>
         ensures reads { Takes (λ vs. vs) (λ _ vs. vs) result (m expected ∷ []) (left self.old) (left self.new) }
         ensures on { length (left self.new) ≤ length (left self.old) }

@@ -25,9 +25,9 @@ impl<'a> Parser<'a> {
     /// Reads a term of the nesting. The flag says whether a `with` that no function follows can come behind it.
     #[cycle(terms)]
     #[tactic(auto, using(gal_grammar::proofs::Equations::too_deep, gal_grammar::proofs::Equations::no_term))]
-    pub fn term(&mut self, nesting: u32, owned: bool) -> Result<Box<Raw<'a>>, Fault>
+    pub fn term(&mut self, nesting: u32, owned: bool) -> Result<Raw<'a>, Fault>
         requires { nesting ≤ 501 }
-        ensures reads { TakesAt owned (λ vs. vs) (λ t vs. term (V.tree t.value) ∷ vs) result (nt nesting k_term ∷ []) (left self.old) (left self.new) }
+        ensures reads { TakesAt owned (λ vs. vs) (λ t vs. term (V.tree t) ∷ vs) result (nt nesting k_term ∷ []) (left self.old) (left self.new) }
         ensures on { length (left self.new) ≤ length (left self.old) }
     {
         if nesting > DEEPEST_NESTING {
@@ -90,9 +90,9 @@ impl<'a> Parser<'a> {
 
     #[cycle(terms)]
     #[tactic(auto, using(gal_grammar::proofs::Equations::term_is_application, gal_grammar::proofs::Equations::forall_row, gal_grammar::proofs::Equations::fun_row, gal_grammar::proofs::Equations::let_row, gal_grammar::proofs::Equations::fix_row))]
-    fn shallow_term(&mut self, nesting: u32, owned: bool) -> Result<Box<Raw<'a>>, Fault>
+    fn shallow_term(&mut self, nesting: u32, owned: bool) -> Result<Raw<'a>, Fault>
         requires { nesting ≤ 500 }
-        ensures reads { TakesAt owned (λ vs. vs) (λ t vs. term (V.tree t.value) ∷ vs) result (nt nesting k_term ∷ []) (left self.old) (left self.new) }
+        ensures reads { TakesAt owned (λ vs. vs) (λ t vs. term (V.tree t) ∷ vs) result (nt nesting k_term ∷ []) (left self.old) (left self.new) }
         ensures on { length (left self.new) ≤ length (left self.old) }
     {
         match self.split() {
@@ -121,9 +121,9 @@ impl<'a> Parser<'a> {
 
     // A head with its arguments, and an arrow behind them, if there is one.
     #[cycle(terms)]
-    fn arrow_or_application(&mut self, nesting: u32, owned: bool) -> Result<Box<Raw<'a>>, Fault>
+    fn arrow_or_application(&mut self, nesting: u32, owned: bool) -> Result<Raw<'a>, Fault>
         requires { nesting ≤ 500 }
-        ensures reads { TakesAt owned (λ vs. vs) (λ t vs. term (V.tree t.value) ∷ vs) result (nt nesting k_atom ∷ nt nesting k_tail ∷ []) (left self.old) (left self.new) }
+        ensures reads { TakesAt owned (λ vs. vs) (λ t vs. term (V.tree t) ∷ vs) result (nt nesting k_atom ∷ nt nesting k_tail ∷ []) (left self.old) (left self.new) }
         ensures on { length (left self.new) ≤ length (left self.old) }
     {
         let head = self.atom(nesting)?;
@@ -133,9 +133,9 @@ impl<'a> Parser<'a> {
     // Behind the word `forall`.
     #[cycle(terms)]
     #[tactic(auto, using(gal_grammar::proofs::Complete::act_runs))]
-    fn product(&mut self, nesting: u32, owned: bool) -> Result<Box<Raw<'a>>, Fault>
+    fn product(&mut self, nesting: u32, owned: bool) -> Result<Raw<'a>, Fault>
         requires { nesting ≤ 500 }
-        ensures reads { TakesAt owned (λ vs. vs) (λ t vs. term (V.tree t.value) ∷ vs) result (act (push (groups S.no_groups)) ∷ nt nesting k_binders ∷ m M.Comma ∷ a_term nesting ∷ act mk_prod ∷ []) (left self.old) (left self.new) }
+        ensures reads { TakesAt owned (λ vs. vs) (λ t vs. term (V.tree t) ∷ vs) result (act (push (groups S.no_groups)) ∷ nt nesting k_binders ∷ m M.Comma ∷ a_term nesting ∷ act mk_prod ∷ []) (left self.old) (left self.new) }
         ensures on { length (left self.new) ≤ length (left self.old) }
     {
         let among = self.all_binders(nesting)?;
@@ -147,9 +147,9 @@ impl<'a> Parser<'a> {
     // Behind the word `fun`.
     #[cycle(terms)]
     #[tactic(auto, using(gal_grammar::proofs::Complete::act_runs))]
-    fn abstraction(&mut self, nesting: u32, owned: bool) -> Result<Box<Raw<'a>>, Fault>
+    fn abstraction(&mut self, nesting: u32, owned: bool) -> Result<Raw<'a>, Fault>
         requires { nesting ≤ 500 }
-        ensures reads { TakesAt owned (λ vs. vs) (λ t vs. term (V.tree t.value) ∷ vs) result (act (push (groups S.no_groups)) ∷ nt nesting k_binders ∷ m M.Gives ∷ a_term nesting ∷ act mk_func ∷ []) (left self.old) (left self.new) }
+        ensures reads { TakesAt owned (λ vs. vs) (λ t vs. term (V.tree t) ∷ vs) result (act (push (groups S.no_groups)) ∷ nt nesting k_binders ∷ m M.Gives ∷ a_term nesting ∷ act mk_func ∷ []) (left self.old) (left self.new) }
         ensures on { length (left self.new) ≤ length (left self.old) }
     {
         let among = self.all_binders(nesting)?;
@@ -161,9 +161,9 @@ impl<'a> Parser<'a> {
     // Behind the word `let`.
     #[cycle(terms)]
     #[tactic(auto, using(gal_grammar::proofs::Complete::act_runs))]
-    fn let_in(&mut self, nesting: u32, owned: bool) -> Result<Box<Raw<'a>>, Fault>
+    fn let_in(&mut self, nesting: u32, owned: bool) -> Result<Raw<'a>, Fault>
         requires { nesting ≤ 500 }
-        ensures reads { TakesAt owned (λ vs. vs) (λ t vs. term (V.tree t.value) ∷ vs) result (tok ident ∷ act (push (groups S.no_groups)) ∷ nt nesting k_groups ∷ m M.Colon ∷ a_term nesting ∷ m M.Assign ∷ a_term nesting ∷ m M.In ∷ a_term nesting ∷ act mk_let ∷ []) (left self.old) (left self.new) }
+        ensures reads { TakesAt owned (λ vs. vs) (λ t vs. term (V.tree t) ∷ vs) result (tok ident ∷ act (push (groups S.no_groups)) ∷ nt nesting k_groups ∷ m M.Colon ∷ a_term nesting ∷ m M.Assign ∷ a_term nesting ∷ m M.In ∷ a_term nesting ∷ act mk_let ∷ []) (left self.old) (left self.new) }
         ensures on { length (left self.new) ≤ length (left self.old) }
     {
         let name = self.identifier()?;
@@ -197,32 +197,27 @@ impl<'a> Parser<'a> {
     // A head with its arguments, if there are any.
     #[cycle(terms)]
     #[tactic(auto, using(gal_grammar::proofs::Complete::act_runs, gal_grammar::proofs::Equations::tail_is_atom))]
-    fn application(&mut self, head: Box<Raw<'a>>, nesting: u32) -> Result<Box<Raw<'a>>, Fault>
+    fn application(&mut self, head: Raw<'a>, nesting: u32) -> Result<Raw<'a>, Fault>
         requires { nesting ≤ 500 }
-        ensures reads { Keeps (λ vs. term (V.tree head.entry.value) ∷ vs) (λ t vs. term (V.tree t.value) ∷ vs) result (nt nesting k_tail ∷ []) (left self.old) (left self.new) }
+        ensures reads { Keeps (λ vs. term (V.tree head.entry) ∷ vs) (λ t vs. term (V.tree t) ∷ vs) result (nt nesting k_tail ∷ []) (left self.old) (left self.new) }
         ensures on { length (left self.new) ≤ length (left self.old) }
         ensures last { OnOk result (begins_atom (left self.new) ≡ false) }
     {
         if !self.is_at_atom() {
             return Ok(head);
         }
-        let first = self.atom(nesting)?;
-        let mut parts = Application::new(self.alloc, head, first);
+        let head = Box::new(self.alloc, head)?;
+        let mut parts = Application::new(self.alloc, head);
         self.arguments(nesting, &mut parts)?;
-        Ok(Raw::application(self.alloc, parts)?)
+        Ok(Raw::application(parts))
     }
 
     // Behind a head.
     #[cycle(terms)]
     #[tactic(auto, using(gal_grammar::proofs::Complete::act_runs, gal_grammar::proofs::Equations::tail_ends, crate::proofs::Marks::not_arrow))]
-    fn behind_head(
-        &mut self,
-        head: Box<Raw<'a>>,
-        nesting: u32,
-        owned: bool,
-    ) -> Result<Box<Raw<'a>>, Fault>
+    fn behind_head(&mut self, head: Raw<'a>, nesting: u32, owned: bool) -> Result<Raw<'a>, Fault>
         requires { nesting ≤ 500 }
-        ensures reads { TakesAt owned (λ vs. term (V.tree head.entry.value) ∷ vs) (λ t vs. term (V.tree t.value) ∷ vs) result (nt nesting k_tail ∷ []) (left self.old) (left self.new) }
+        ensures reads { TakesAt owned (λ vs. term (V.tree head.entry) ∷ vs) (λ t vs. term (V.tree t) ∷ vs) result (nt nesting k_tail ∷ []) (left self.old) (left self.new) }
         ensures on { length (left self.new) ≤ length (left self.old) }
     {
         let from = self.application(head, nesting)?;
@@ -235,33 +230,33 @@ impl<'a> Parser<'a> {
 
     #[cycle(terms)]
     #[tactic(auto, using(gal_grammar::proofs::Complete::act_runs))]
-    fn atom(&mut self, nesting: u32) -> Result<Box<Raw<'a>>, Fault>
+    fn atom(&mut self, nesting: u32) -> Result<Raw<'a>, Fault>
         requires { nesting ≤ 500 }
-        ensures reads { Takes (λ vs. vs) (λ t vs. term (V.tree t.value) ∷ vs) result (nt nesting k_atom ∷ []) (left self.old) (left self.new) }
+        ensures reads { Takes (λ vs. vs) (λ t vs. term (V.tree t) ∷ vs) result (nt nesting k_atom ∷ []) (left self.old) (left self.new) }
         ensures on { length (left self.new) ≤ length (left self.old) }
         ensures more { OnOk result (length (left self.new) < length (left self.old)) }
     {
         match self.split() {
             Some((Lexeme::Short(name), rest)) => {
                 self.rest = rest;
-                Ok(Raw::reference(self.alloc, QualifiedName::Short(name))?)
+                Ok(Raw::reference(QualifiedName::Short(name)))
             }
             Some((Lexeme::Long(name), rest)) => {
                 self.rest = rest;
-                Ok(Raw::reference(self.alloc, QualifiedName::Long(name))?)
+                Ok(Raw::reference(QualifiedName::Long(name)))
             }
             Some((Lexeme::Mark(Mark::Prop), rest)) => {
                 self.rest = rest;
-                Ok(Raw::prop(self.alloc)?)
+                Ok(Raw::prop())
             }
             Some((Lexeme::Mark(Mark::Set), rest)) => {
                 self.rest = rest;
-                Ok(Raw::set(self.alloc)?)
+                Ok(Raw::set())
             }
             Some((Lexeme::Mark(Mark::At), rest)) => {
                 self.rest = rest;
                 let name = self.qualified_name()?;
-                Ok(Raw::reference(self.alloc, name)?)
+                Ok(Raw::reference(name))
             }
             Some((Lexeme::Mark(Mark::Typ), rest)) => {
                 self.rest = rest;
@@ -283,15 +278,15 @@ impl<'a> Parser<'a> {
 
     // Behind the word `Type`.
     #[tactic(auto, using(gal_grammar::proofs::Complete::act_runs, crate::proofs::Marks::level_ends))]
-    fn type_level(&mut self, nesting: u32) -> Result<Box<Raw<'a>>, Fault>
-        ensures reads { Takes (λ vs. vs) (λ t vs. term (V.tree t.value) ∷ vs) result (act (push (term S.type_any)) ∷ nt nesting k_type_level ∷ []) (left self.old) (left self.new) }
+    fn type_level(&mut self, nesting: u32) -> Result<Raw<'a>, Fault>
+        ensures reads { Takes (λ vs. vs) (λ t vs. term (V.tree t) ∷ vs) result (act (push (term S.type_any)) ∷ nt nesting k_type_level ∷ []) (left self.old) (left self.new) }
         ensures on { length (left self.new) ≤ length (left self.old) }
     {
         if !self.take(Mark::LevelOpen) {
-            return Ok(Raw::type_any(self.alloc)?);
+            return Ok(Raw::type_any());
         }
         let level = self.qualified_name()?;
         self.mark(Mark::BraceClose)?;
-        Ok(Raw::type_at(self.alloc, level)?)
+        Ok(Raw::type_at(level))
     }
 }

@@ -19,8 +19,8 @@ pub fn parse_term<'a>(
     alloc: Global,
     source: &'a [u8],
     tokens: &'a [Token],
-) -> Result<Box<Raw<'a>>, Fault>
-    ensures term { IfOk result (λ t. IsTerm (all_spelled source.now tokens.now) (tree t.value)) }
+) -> Result<Raw<'a>, Fault>
+    ensures term { IfOk result (λ t. IsTerm (all_spelled source.now tokens.now) (tree t)) }
     ensures fault { IfErr result (λ fault. FailsWith fault (run (all_spelled source.now tokens.now) (a_term 0 ∷ []) [])) }
 {
     let mut parser = Parser::new(alloc, source, tokens);

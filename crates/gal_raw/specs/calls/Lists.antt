@@ -8,7 +8,7 @@ use Rattle.gal_raw.specs.declared.terms.Branch.{Branch}
 
 abbrev pub group_list : S.Groups → List Group → S.Groups
 group_list g [] = g
-group_list g (x ∷ xs) = group_list (S.group g (map binder x.binders.items) (tree x.ty.value)) xs
+group_list g (x ∷ xs) = group_list (S.group g (map binder x.binders.items) (tree x.ty)) xs
 
 abbrev pub function_list : S.Functions → List Function → S.Functions
 function_list f [] = f
@@ -16,4 +16,4 @@ function_list f (x ∷ xs) = function_list (function f x) xs
 
 abbrev pub branch_list : S.Branches → List Branch → S.Branches
 branch_list b [] = b
-branch_list b (x ∷ xs) = branch_list (S.branch b (qualified x.constructor) (map binder x.names.items) (tree x.body.value)) xs
+branch_list b (x ∷ xs) = branch_list (S.branch b (qualified x.constructor) (map binder x.names.items) (tree x.body)) xs
