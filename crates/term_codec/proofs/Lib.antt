@@ -8,3 +8,4 @@ pub mod Written
 pub mod WrittenParts
 pub mod TermLoops
 pub mod RowsRead
+pub mod Stored

@@ -2,6 +2,7 @@
 ghost use Rattle.std.specs.Prelude.{◌≡◌, ◌≤◌, ◌<◌, ◌^◌, [], IfOk, IfErr, length, drop};
 ghost use Rattle.seg_format.specs.declared.layout.Segment.TheVariants.{Library, Proofs};
 ghost use Rattle.term_format.specs.Reading.{value, whole, read_name, read_level};
+ghost use Rattle.term_format.specs.Storable.{AreStorable, IsStorable};
 ghost use Rattle.term_format.specs.ConstraintReading.{read_constraints};
 ghost use Rattle.term_codec.specs.calls.Answers.{Stops, Refuses};
 
@@ -50,6 +51,7 @@ pub fn level_at(alloc: Global, b: &[u8], place: u32) -> Result<(Level, u32), Dec
 #[tactic(auto, using(crate::proofs::Refusing::whole_stops, crate::proofs::Refusing::trails, crate::proofs::Refusing::whole_ends, crate::proofs::Refusing::nothing_left))]
 fn whole_constraints(alloc: Global, b: &[u8]) -> Result<Constraints, Stop>
     ensures value { IfOk result (λ cs. whole (read_constraints b.now) ≡ value cs []) }
+    ensures storable { IfOk result (λ cs. AreStorable cs) }
     ensures stops { IfErr result (λ stop. Stops (length b.now) (whole (read_constraints b.now)) stop) }
 {
     let mut place = 0;
@@ -65,6 +67,7 @@ fn whole_constraints(alloc: Global, b: &[u8]) -> Result<Constraints, Stop>
 pub fn decode_constraints(alloc: Global, b: &[u8]) -> Result<Constraints, DecodeFault>
     requires { length b.now < 2 ^ 32 }
     ensures value { IfOk result (λ cs. whole (read_constraints b.now) ≡ value cs []) }
+    ensures storable { IfOk result (λ cs. AreStorable cs) }
     ensures fault { IfErr result (λ f. Refuses Proofs (length b.now) (whole (read_constraints b.now)) f) }
 {
     match whole_constraints(alloc, b) {
@@ -97,6 +100,7 @@ pub fn term_at(alloc: Global, b: &[u8], place: u32) -> Result<(Term, u32), Decod
 #[tactic(auto, using(crate::proofs::Refusing::whole_stops, crate::proofs::Refusing::trails, crate::proofs::Refusing::whole_ends, crate::proofs::Refusing::nothing_left))]
 fn whole_term(alloc: Global, b: &[u8]) -> Result<Term, Stop>
     ensures value { IfOk result (λ t. whole (read_whole_term b.now) ≡ value (tree t) []) }
+    ensures storable { IfOk result (λ t. IsStorable (tree t)) }
     ensures stops { IfErr result (λ stop. Stops (length b.now) (whole (read_whole_term b.now)) stop) }
 {
     let mut place = 0;
@@ -112,6 +116,7 @@ fn whole_term(alloc: Global, b: &[u8]) -> Result<Term, Stop>
 pub fn decode_term(alloc: Global, b: &[u8]) -> Result<Term, DecodeFault>
     requires { length b.now < 2 ^ 32 }
     ensures value { IfOk result (λ t. whole (read_whole_term b.now) ≡ value (tree t) []) }
+    ensures storable { IfOk result (λ t. IsStorable (tree t)) }
     ensures fault { IfErr result (λ f. Refuses Opaques (length b.now) (whole (read_whole_term b.now)) f) }
 {
     match whole_term(alloc, b) {
