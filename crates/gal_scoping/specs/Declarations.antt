@@ -99,7 +99,7 @@ module _ (before : Before) where
       let owner = owned_by false (first_name names) in
       after (axioms gs) (λ done.
       with_part (λ type. done ++ axioms_of_type names type)
-        (term (place_with (map fresh_constant (names_of_groups gs))) owner [] (before.taken owner) a))
+      (term (place_with (map fresh_constant (names_of_groups gs))) owner [] (before.taken owner) a))
 
   -- A statement: the binders of its groups and its type under them.
   pub record Statement : Type 0 where
@@ -110,7 +110,7 @@ module _ (before : Before) where
   statement owner gs a =
       after (bindings place owner [] (before.taken owner) gs) (λ bs.
       with_part (λ type. record { binders = bs; conclusion = type })
-        (term place owner (inside bs []) (before.taken owner + types_in_groups gs) a))
+      (term place owner (inside bs []) (before.taken owner + types_in_groups gs) a))
 
   abbrev pub statement_type : Statement → Tree
   statement_type s = products (domains s.binders) s.conclusion
@@ -124,7 +124,7 @@ module _ (before : Before) where
       let owner = owned_by false name in
       after (statement owner gs a) (λ s.
       with_part (λ body. transparent (id_named name) (statement_type s) body ∷ [])
-        (body owner (before.taken owner + types_in_groups gs + types_in a) s t))
+      (body owner (before.taken owner + types_in_groups gs + types_in a) s t))
 
   -- Each name behind `Proof using` is that of a live section variable.
   abbrev pub hypotheses_known : List Named → Reading ⊤
@@ -169,7 +169,7 @@ module _ (before : Before) where
       let names = known_names (function_names fs) in
       let owner = owned_by false (first_name names) in
       with_part (λ read. block_of_functions names (with_places before.environment read))
-        (functions place owner (function_names fs) [] (before.taken owner) fs)
+      (functions place owner (function_names fs) [] (before.taken owner) fs)
 
   -- In the types of constructors the types of the block are seen, and the parameters of their own type.
   module _ (owner : Owner) (types : List (List ℕ)) where
@@ -193,8 +193,8 @@ module _ (before : Before) where
     constructors name ps first (C.ctor x gs a ∷ cs) =
         after (bindings seen owner (inside ps []) first gs) (λ as_.
         with_parts (λ t cs. constructor_declared ps (text_of x) as_ t ∷ cs)
-          (conclusion name ps as_ (first + types_in_groups gs) a)
-          (constructors name ps (first + types_in_groups gs + types_in_conclusion a) cs))
+        (conclusion name ps as_ (first + types_in_groups gs) a)
+        (constructors name ps (first + types_in_groups gs + types_in_conclusion a) cs))
 
     abbrev pub types_in_constructors : List C.Ctor → ℕ
     types_in_constructors [] = 0
@@ -207,8 +207,8 @@ module _ (before : Before) where
     type_read first (C.ind x gs a cs) =
         after (bindings place owner [] first gs) (λ ps.
         with_parts (type_declared (text_of x) ps)
-          (term place owner (inside ps []) (first + types_in_groups gs) a)
-          (constructors (text_of x) ps (first + types_in_groups gs + types_in a) cs))
+        (term place owner (inside ps []) (first + types_in_groups gs) a)
+        (constructors (text_of x) ps (first + types_in_groups gs + types_in a) cs))
 
     abbrev pub types_in_type : C.Ind → ℕ
     types_in_type (C.ind x gs a cs) = types_in_groups gs + types_in a + types_in_constructors cs
@@ -230,7 +230,7 @@ module _ (before : Before) where
       let types = map type_name is in
       let owner = owned_by false (first_name types) in
       with_part (λ ts. inductive (record { parameters = parameters_of is; types = ts }) ∷ [])
-        (types_read owner types (before.taken owner) is)
+      (types_read owner types (before.taken owner) is)
 
   -- The declarations of a command; `proofs` says whether bodies ended by `Qed` are read.
   abbrev pub declarations : (proofs : Bool) → C.Command → Reading (List Declaration)

@@ -7,3 +7,4 @@ pub mod Matches
 pub mod Fixpoints
 pub mod Terms
 pub mod Declarations
+pub mod calls

@@ -20,8 +20,8 @@ abbrev pub names_at : (name : List ℕ) → (parameters : ℕ) → (type : Tree)
 names_at name parameters type binders =
     if nat_eq (length binders) (parameters + further type parameters)
     then (if list_all (λ b. is_none (binder_name b)) (take parameters binders)
-      then Ok (drop parameters binders)
-      else Err (bad_pattern name))
+    then Ok (drop parameters binders)
+    else Err (bad_pattern name))
     else Err (bad_pattern name)
 
 -- The type of a match, with the names of its indices.

@@ -33,8 +33,8 @@ module _ (place : Place) (owner : Owner) where
         after (bindings around first gs) (λ bs.
         after (term (inside bs around) (first + types_in_groups gs) a) (λ a'.
         with_parts (λ t u. T.let_in (abstractions (domains bs) t) (products (domains bs) a') u)
-          (term (inside bs around) (first + types_in_groups gs + types_in a) t)
-          (term (Some (text_of x) ∷ around) (first + types_in_groups gs + types_in a + types_in t) u)))
+        (term (inside bs around) (first + types_in_groups gs + types_in a) t)
+        (term (Some (text_of x) ∷ around) (first + types_in_groups gs + types_in a + types_in t) u)))
     term around first (fix_of fs x) =
         after (functions (function_names fs) around first fs) (λ read.
         with_part (fix_read place.environment read) (function_meant x (function_names fs)))
@@ -42,9 +42,9 @@ module _ (place : Place) (owner : Owner) where
         let type = matched_type place around i bs in
         after (term around first v) (λ value.
         type_and_motive i type
-          (term (around_motive around type (value_name v x)) (first + types_in v) m)
-          (λ type motive.
-            after (branches around (first + types_in v + types_in m) type bs) (case_of type value motive)))
+        (term (around_motive around type (value_name v x)) (first + types_in v) m)
+        (λ type motive.
+        after (branches around (first + types_in v + types_in m) type bs) (case_of type value motive)))
 
     -- The binders of groups, each of which sees those before it.
     pub bindings : (around : Around) → (first : ℕ) → Groups → Reading (List Binding)
@@ -61,8 +61,8 @@ module _ (place : Place) (owner : Owner) where
         after (bindings around (first + types_in_functions fs) gs) (λ bs.
         after (struct_place s bs) (λ struct.
         with_parts (λ codomain body. done ++ (record { struct = struct; bindings = bs; codomain = codomain; body = body } ∷ []))
-          (term (inside bs around) (first + types_in_functions fs + types_in_groups gs) a)
-          (term (inside bs (reverse names ++ around)) (first + types_in_functions fs + types_in_groups gs + types_in a) t))))
+        (term (inside bs around) (first + types_in_functions fs + types_in_groups gs) a)
+        (term (inside bs (reverse names ++ around)) (first + types_in_functions fs + types_in_groups gs + types_in a) t))))
 
     pub branches : (around : Around) → (first : ℕ) → MatchedType → Branches → Reading (List ReadBranch)
     branches around first type no_branches = Ok []

@@ -1,0 +1,2 @@
+-- The worked library of the examples.
+pub mod Examples
