@@ -2,6 +2,9 @@
 -- "Vernacular": assumptions, definitions, assertions, inductive types and fixpoints).
 use Rattle.std.specs.Prelude.{⊤, ℕ, ◌+◌, List, [], ◌∷◌, ◌++◌, map, length, Option, Some, None, Bool, true, false, Ok, Err, if◌then◌else◌}
 use Rattle.cic_names.specs.declared.name.GlobalId.{GlobalId}
+use Rattle.cic_names.specs.declared.level.Level.{Level}
+use Rattle.cic_names.specs.declared.level.Level.TheVariants.{Set}
+use Rattle.cic_names.specs.declared.constraint.Constraint.{Constraint}
 use Rattle.cic_terms.specs.Tree.{Tree, ind}
 use Rattle.cic_rules.specs.Environment.{Environment, Declaration, axiom_of, transparent, opaque, inductive, TypeDeclaration, ConstructorDeclaration}
 use Rattle.cic_rules.specs.Telescopes.{Function, products, abstractions, apply, variables, lift_all, function_type, fixpoint}
@@ -10,7 +13,7 @@ use Rattle.gal_grammar.specs.Commands as C
 use Rattle.gal_scoping.specs.Scopes.{Scope}
 use Rattle.gal_scoping.specs.Readings.{Reading, unknown, after, with_part, with_parts}
 use Rattle.gal_scoping.specs.Names.{Place, Fresh, fresh_constant, fresh_type, text_of, binder_name, has_own}
-use Rattle.gal_scoping.specs.Levels.{Owner, types_in, types_in_groups}
+use Rattle.gal_scoping.specs.Levels.{Owner, level_named, types_in, types_in_groups}
 use Rattle.gal_scoping.specs.Fixpoints.{Binding, domains, inside, function_names, with_places}
 use Rattle.gal_scoping.specs.Terms.{term, bindings, functions}
 
@@ -243,3 +246,20 @@ module _ (before : Before) where
   declarations proofs (C.fixpoint fs) = fixpoints fs
   declarations proofs (C.inductive is) = block is
   declarations proofs _ = Ok []
+
+-- The constraints that a command `Constraint` states (Coq Reference Manual, "Sorts": `Constraint`). An equation is two.
+abbrev pub level_read : Scope → C.Level → Reading Level
+level_read scope C.level_set = Ok Set
+level_read scope (C.level_of x) = level_named scope x
+
+abbrev pub related : C.Relation → (left right : Level) → List Constraint
+related C.less l r = record { left = l; strict = true; right = r } ∷ []
+related C.at_most l r = record { left = l; strict = false; right = r } ∷ []
+related C.equal l r = record { left = l; strict = false; right = r } ∷ record { left = r; strict = false; right = l } ∷ []
+
+abbrev pub constraints_of : Scope → List C.Cons → Reading (List Constraint)
+constraints_of scope [] = Ok []
+constraints_of scope (C.cons l r l' ∷ cs) =
+    with_parts (λ here later. here ++ later)
+    (with_parts (related r) (level_read scope l) (level_read scope l'))
+    (constraints_of scope cs)

@@ -1,14 +1,15 @@
 //! Examples of commands, which compute.
 ghost use Rattle.std.specs.Prelude.{◌≡◌, Some, None, [], ◌∷◌, codes, Ok, Err, true, false};
+ghost use Rattle.cic_names.specs.declared.level.Level.TheVariants.{Set};
 ghost use Rattle.cic_terms.specs.Tree as T;
 ghost use Rattle.cic_terms.specs.Tree.{no_child, child, many};
 ghost use Rattle.cic_rules.specs.Environment.{axiom_of, transparent, opaque, inductive};
 ghost use Rattle.gal_grammar.specs.Terms.{set, type_any, app, arrow, named, no_groups, group, no_functions, function};
 ghost use Rattle.gal_grammar.specs.Commands as C;
 ghost use Rattle.gal_scoping.specs.Readings.{unknown};
-ghost use Rattle.gal_scoping.specs.Levels.{anonymous, at_level};
-ghost use Rattle.gal_scoping.specs.Declarations.{declarations, declared_names, duplicate};
-ghost use Rattle.gal_scoping.specs.calls.Examples.{id, N, owner, before, a_name, called, of_type};
+ghost use Rattle.gal_scoping.specs.Levels.{anonymous, at_level, declared_level};
+ghost use Rattle.gal_scoping.specs.Declarations.{declarations, declared_names, duplicate, constraints_of};
+ghost use Rattle.gal_scoping.specs.calls.Examples.{id, N, scope, owner, before, name, dotted, a_name, called, of_type};
 
 /// Each group of an assumption sees the names of those before it. A level belongs to the first name of its group.
 pub fn assumptions()
@@ -54,4 +55,10 @@ pub fn duplicates()
     ensures there { duplicate (codes "N" ∷ []) (declared_names (C.axiom_of (group no_groups (called (codes "d") ∷ called (codes "N") ∷ called (codes "d") ∷ []) set))) ≡ Some (codes "N") }
     ensures before { duplicate [] (declared_names (C.inductive (C.ind (named 0 (codes "d")) no_groups set (C.ctor (named 0 (codes "e")) no_groups None ∷ []) ∷ C.ind (named 0 (codes "e")) no_groups set [] ∷ []))) ≡ Some (codes "e") }
     ensures none { duplicate (codes "N" ∷ []) (codes "d" ∷ codes "e" ∷ []) ≡ None }
+{}
+
+/// An equation of levels is two constraints, and the left level is read first.
+pub fn constraints()
+    ensures equation { constraints_of scope (C.cons C.level_set C.at_most (C.level_of (name (codes "u"))) ∷ C.cons (C.level_of (name (codes "u"))) C.equal (C.level_of (dotted (codes "B.w"))) ∷ []) ≡ Ok (record { left = Set; strict = false; right = declared_level (id (codes "A") (codes "u")) } ∷ record { left = declared_level (id (codes "A") (codes "u")); strict = false; right = declared_level (id (codes "B") (codes "w")) } ∷ record { left = declared_level (id (codes "B") (codes "w")); strict = false; right = declared_level (id (codes "A") (codes "u")) } ∷ []) }
+    ensures unknown { constraints_of scope (C.cons (C.level_of (name (codes "f"))) C.less (C.level_of (name (codes "g"))) ∷ []) ≡ Err (unknown (codes "f")) }
 {}

@@ -5,7 +5,7 @@
 mod declaring;
 mod examples;
 
-pub use declaring::{assumptions, blocks, definitions, duplicates, fixpoints, proofs};
+pub use declaring::{assumptions, blocks, constraints, definitions, duplicates, fixpoints, proofs};
 pub use examples::{
     branches_stand_in_any_order, groups_are_bound, levels_are_shared, names_are_sought_in_order,
     qualified_names, recursive_binders, what_patterns_refuse, what_stands_first_is_the_fault,
