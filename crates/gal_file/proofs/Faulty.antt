@@ -9,7 +9,7 @@ use Rattle.gal_grammar.specs.Tokens.{spelled, all_spelled}
 use Rattle.gal_grammar.specs.Grammar as G
 use Rattle.gal_term_parser.specs.declared.fault.Fault.{Fault}
 use Rattle.gal_term_parser.specs.declared.fault.Fault.TheVariants as P
-use Rattle.gal_file_parser.specs.Faults.{IsFaultOf}
+use Rattle.gal_term_parser.specs.Faults.{IsFaultOf}
 use Rattle.gal_file.specs.Reading.{place_at, IsLexical, IsGrammatical}
 use Rattle.gal_file.specs.calls.Faults.{fault_of, placed}
 
@@ -22,9 +22,9 @@ lexical source L.NoMemory h = tt
 left_over : (source : List ℕ) (tokens : List Token) (left : ℕ) → length (all_spelled source tokens) - left ≡ length tokens - left
 left_over source tokens left = ap (λ n. n - left) (length-map tokens (spelled source))
 
-pub grammatical : (source : List ℕ) (tokens : List Token) (fault : Fault) → IsFaultOf (all_spelled source tokens) fault → IsGrammatical source tokens (placed source tokens fault)
-grammatical source tokens (P.Syntax left) h = (length tokens - left, subst (λ n. G.IsSyntax (all_spelled source tokens) n) (left_over source tokens left) h, refl)
-grammatical source tokens (P.Nesting left) h = (length tokens - left, subst (λ n. G.IsNesting (all_spelled source tokens) n) (left_over source tokens left) h, refl)
+pub grammatical : (source : List ℕ) (tokens : List Token) (fault : Fault) → IsFaultOf G.file G.nothing_said (all_spelled source tokens) fault → IsGrammatical source tokens (placed source tokens fault)
+grammatical source tokens (P.Syntax left) h = (length tokens - left, subst (λ n. G.IsSyntax G.file G.nothing_said (all_spelled source tokens) n) (left_over source tokens left) h, refl)
+grammatical source tokens (P.Nesting left) h = (length tokens - left, subst (λ n. G.IsNesting G.file G.nothing_said (all_spelled source tokens) n) (left_over source tokens left) h, refl)
 grammatical source tokens P.NoMemory h = tt
 
 pub place_in : (source : List ℕ) (tokens : List Token) (i : ℕ) (d : Token) → i < length tokens → place_at source tokens i ≡ (get_or tokens i d).place

@@ -32,7 +32,7 @@ IsLexical source _ = ⊥
 
 -- The tokens of the source are no file, for this reason.
 abbrev pub IsGrammatical : List ℕ → List Token → ParseFault → Type 0
-IsGrammatical source tokens (F.Syntax place) = (i : ℕ) × G.IsSyntax (all_spelled source tokens) i × (place ≡ place_at source tokens i)
-IsGrammatical source tokens (F.Nesting place) = (i : ℕ) × G.IsNesting (all_spelled source tokens) i × (place ≡ place_at source tokens i)
+IsGrammatical source tokens (F.Syntax place) = (i : ℕ) × G.IsSyntax G.file G.nothing_said (all_spelled source tokens) i × (place ≡ place_at source tokens i)
+IsGrammatical source tokens (F.Nesting place) = (i : ℕ) × G.IsNesting G.file G.nothing_said (all_spelled source tokens) i × (place ≡ place_at source tokens i)
 IsGrammatical source tokens F.NoMemory = Unit {0}
 IsGrammatical source tokens _ = ⊥

@@ -1,12 +1,12 @@
 //! The commands of a whole file.
 ghost use Rattle.std.specs.Prelude.{◌≡◌, ◌≤◌, ◌<◌, [], ◌∷◌, length, IfOk, IfErr, None};
 ghost use Rattle.gal_grammar.specs.Tokens.{all_spelled};
-ghost use Rattle.gal_grammar.specs.Grammar.{File};
+ghost use Rattle.gal_grammar.specs.Grammar.{File, file, nothing_said};
 ghost use Rattle.gal_grammar.specs.Values.{commands};
 ghost use Rattle.gal_grammar.specs.Kinds.{nt, k_file, k_commands};
 ghost use Rattle.gal_raw.specs.Commands as C;
 ghost use Rattle.gal_term_parser.specs.Left.{left};
-ghost use Rattle.gal_file_parser.specs.Faults.{IsFaultOf};
+ghost use Rattle.gal_term_parser.specs.Faults.{IsFaultOf};
 ghost use Rattle.gal_file_parser.specs.calls.Openings.{behind};
 ghost use Rattle.gal_term_parser.specs.calls.Steps.{Takes};
 ghost use Rattle.gal_file_parser.specs.calls.Steps.{TakesOpening, NextIn, Leads};
@@ -133,7 +133,7 @@ pub fn parse<'a>(
     tokens: &'a [Token],
 ) -> Result<Commands<'a>, Fault>
     ensures file { IfOk result (λ cs. File (all_spelled source.now tokens.now) (C.commands cs)) }
-    ensures fault { IfErr result (λ fault. IsFaultOf (all_spelled source.now tokens.now) fault) }
+    ensures fault { IfErr result (λ fault. IsFaultOf file nothing_said (all_spelled source.now tokens.now) fault) }
 {
     let mut parser = Parser::new(alloc, source, tokens);
     let mut list = Commands::new(alloc);

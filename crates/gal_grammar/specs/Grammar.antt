@@ -62,25 +62,27 @@ nothing_said = commands [] ∷ []
 abbrev pub File : List Token → List Command → Type 0
 File s cs = Reads 0 file nothing_said s (commands cs ∷ [])
 
--- some file begins with these tokens, and terms past the deepest nesting begin in it only behind them and the given number of tokens before
-abbrev pub Begins : ℕ → List Token → Type 0
-Begins n s = (x : List Token) × (f : List Val) × Reads (n + length x) file nothing_said (s ++ x) f
+-- In what follows `said` are the values before the wants are read; those of a file are `file` and `nothing_said`.
+module _ (wants : List Want) (said : List Val) where
+  -- what is wanted begins with these tokens, and terms past the deepest nesting begin in it only behind them and the given number of tokens before
+  abbrev pub Begins : ℕ → List Token → Type 0
+  Begins n s = (x : List Token) × (f : List Val) × Reads (n + length x) wants said (s ++ x) f
 
--- whatever the nesting
-abbrev pub BeginsNothing : List Token → Type 0
-BeginsNothing s = (late : ℕ) (x : List Token) (f : List Val) → Reads late file nothing_said (s ++ x) f → ⊥
+  -- whatever the nesting
+  abbrev pub BeginsNothing : List Token → Type 0
+  BeginsNothing s = (late : ℕ) (x : List Token) (f : List Val) → Reads late wants said (s ++ x) f → ⊥
 
--- the first token such that no file begins with the tokens up to and with it, or the end where more is needed
-pub record IsSyntax (s : List Token) (place : ℕ) : Type 0 where
-  pub inside : place ≤ length s
-  pub before : Begins 0 (take place s)
-  pub with_it : place < length s → BeginsNothing (take (place + 1) s)
-  pub no_file : (late : ℕ) (f : List Val) → Reads late file nothing_said s f → ⊥
+  -- the first token such that nothing that is wanted begins with the tokens up to and with it, or the end where more is needed
+  pub record IsSyntax (s : List Token) (place : ℕ) : Type 0 where
+    pub inside : place ≤ length s
+    pub before : Begins 0 (take place s)
+    pub with_it : place < length s → BeginsNothing (take (place + 1) s)
+    pub no_reading : (late : ℕ) (f : List Val) → Reads late wants said s f → ⊥
 
--- the first token of the first term past the deepest nesting
-pub record IsNesting (s : List Token) (place : ℕ) : Type 0 where
-  pub inside : place < length s
-  pub before : Begins 0 (take place s)
-  pub deep : Begins 1 (take (place + 1) s)
-  pub with_it : Begins 0 (take (place + 1) s) → ⊥
-  pub no_file : (f : List Val) → Reads 0 file nothing_said s f → ⊥
+  -- the first token of the first term past the deepest nesting
+  pub record IsNesting (s : List Token) (place : ℕ) : Type 0 where
+    pub inside : place < length s
+    pub before : Begins 0 (take place s)
+    pub deep : Begins 1 (take (place + 1) s)
+    pub with_it : Begins 0 (take (place + 1) s) → ⊥
+    pub no_reading : (f : List Val) → Reads 0 wants said s f → ⊥

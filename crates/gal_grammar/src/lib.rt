@@ -17,12 +17,12 @@ pub fn one_reading()
 
 /// Tokens at which Syntax stands are no file.
 pub fn no_file_with_syntax()
-    ensures { (s : List Token) (place : ℕ) (cs : List Command) → IsSyntax s place → File s cs → ⊥ }
+    ensures { (s : List Token) (place : ℕ) (cs : List Command) → IsSyntax file nothing_said s place → File s cs → ⊥ }
 {}
 
 /// Tokens at which Nesting stands are no file.
 pub fn no_file_with_nesting()
-    ensures { (s : List Token) (place : ℕ) (cs : List Command) → IsNesting s place → File s cs → ⊥ }
+    ensures { (s : List Token) (place : ℕ) (cs : List Command) → IsNesting file nothing_said s place → File s cs → ⊥ }
 {}
 
 /// What the machine reads is a file.
@@ -37,10 +37,10 @@ pub fn reads_each_file()
 
 /// Where the machine fails by syntax, so many tokens before the end, Syntax stands.
 pub fn fails_at_syntax()
-    ensures { (s : List Token) (left : ℕ) → run s file nothing_said ≡ Fail syntax left → IsSyntax s (length s - left) }
+    ensures { (s : List Token) (left : ℕ) → run s file nothing_said ≡ Fail syntax left → IsSyntax file nothing_said s (length s - left) }
 {}
 
 /// Where the machine fails by nesting, so many tokens before the end, Nesting stands.
 pub fn fails_at_nesting()
-    ensures { (s : List Token) (left : ℕ) → run s file nothing_said ≡ Fail nesting left → IsNesting s (length s - left) }
+    ensures { (s : List Token) (left : ℕ) → run s file nothing_said ≡ Fail nesting left → IsNesting file nothing_said s (length s - left) }
 {}

@@ -1,5 +1,5 @@
 -- Tests of the next token, and the parts that begin with one token or are absent.
-use Rattle.std.proofs.Common.{◌≡◌, ℕ, true, false, List, [], ◌∷◌, ◌++◌, length, map, Option, Some, refl, sym, ap, ◌∙◌}
+use Rattle.std.proofs.Common.{◌≡◌, ℕ, true, false, List, [], ◌∷◌, ◌++◌, length, ◌-◌, map, Option, Some, refl, sym, ap, ◌∙◌}
 use Rattle.std.proofs.lemmas.List.{length-map, map-append}
 use Rattle.std.proofs.lemmas.Slice.Eq.{bytes_eq-Decides}
 use Rattle.std.proofs.lemmas.Bool.{false_from_ne_true}
@@ -15,8 +15,10 @@ use Rattle.gal_grammar.specs.Values.{Val}
 use Rattle.gal_grammar.specs.Actions.{add_binder}
 use Rattle.gal_grammar.specs.Kinds.{Want, tok, act, nt, k_names, k_groups, k_struct, k_as, k_type_level}
 use Rattle.gal_grammar.specs.Rules.{m}
-use Rattle.gal_grammar.specs.calls.Machine.{Fail, syntax, run}
+use Rattle.gal_grammar.specs.calls.Machine.{Fail, syntax, nesting, run}
 use Rattle.gal_grammar.specs.calls.Reading.{begins_open, begins_arrow, begins_with, begins_bar, begins_end}
+use Rattle.gal_grammar.specs.Grammar.{IsSyntax, IsNesting}
+use Rattle.gal_grammar.proofs.Exact.{syntax_fault_of, nesting_fault_of}
 use Rattle.gal_grammar.specs.Terms.{Raw}
 use Rattle.gal_grammar.specs.Values.{term}
 use Rattle.gal_grammar.specs.Rules.{a_term}
@@ -141,3 +143,10 @@ map_more f xs x = map-append f xs (x ∷ [])
 
 pub term_read : (s : List Token) (t : Raw) → run s (a_term 0 ∷ []) [] ≡ Read (term t ∷ []) → IsTerm s t
 term_read s t e = runs_right 0 s plainly (a_term 0 ∷ []) [] (term t ∷ []) e
+
+-- where the machine fails over a term, the term's fault stands
+pub term_syntax : (s : List Token) (n : ℕ) → run s (a_term 0 ∷ []) [] ≡ Fail syntax n → IsSyntax (a_term 0 ∷ []) [] s (length s - n)
+term_syntax = syntax_fault_of (a_term 0 ∷ []) [] refl
+
+pub term_nesting : (s : List Token) (n : ℕ) → run s (a_term 0 ∷ []) [] ≡ Fail nesting n → IsNesting (a_term 0 ∷ []) [] s (length s - n)
+term_nesting = nesting_fault_of (a_term 0 ∷ []) [] refl

@@ -76,9 +76,3 @@ abbrev pub NextBranch : ℕ → Result Bool Fault → List Token → List Token 
 NextBranch d (Ok true) old new = ((k : List Want) (vs : List Val) → run old (nt d k_more_branches ∷ k) vs ≡ run new (nt d k_branch ∷ nt d k_more_branches ∷ k) vs) × (length new < length old)
 NextBranch d (Ok false) old new = ((k : List Want) (vs : List Val) → run old (nt d k_more_branches ∷ k) vs ≡ run new k vs) × (length new < length old)
 NextBranch d (Err e) old new = Fails (λ vs. vs) e (nt d k_more_branches ∷ []) old
-
--- the machine fails so
-abbrev pub FailsWith : Fault → Outcome → Type 0
-FailsWith NoMemory o = Unit {0}
-FailsWith (Syntax left) o = o ≡ Fail syntax left
-FailsWith (Nesting left) o = o ≡ Fail nesting left
