@@ -1,0 +1,4 @@
+pub mod Faults
+pub mod Counting
+pub mod Held
+pub mod calls
