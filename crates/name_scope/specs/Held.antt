@@ -1,10 +1,8 @@
 -- What a scope of the program stands for.
 use Rattle.std.specs.Prelude.{ℕ, List, [], Option}
-use Rattle.std.specs.Map.{lookup}
-use Rattle.cic_names.specs.Sameness.{same_name}
 use Rattle.gal_scoping.specs.Scopes.{Scope}
 use Rattle.gal_scoping.specs.Levels.{Owner}
-use Rattle.name_scope.specs.Counting.{part_count}
+use Rattle.name_scope.specs.Counting.{count_in}
 use Rattle.name_scope.specs.declared.scope.Scope.{Scope as Held}
 
 -- What names mean at the place.
@@ -25,7 +23,7 @@ variables_of s = s.variables
 
 -- How many anonymous levels each owner has taken.
 abbrev pub taken_of : Held → Owner → ℕ
-taken_of s owner = part_count owner.opaque (lookup (same_name owner.name) s.counts.of.entries)
+taken_of s owner = count_in s.counts.of.entries owner
 
 -- Only the library and the prefix are known.
 abbrev pub empty_scope : (library : List ℕ) → (prefix : Option (List ℕ)) → Scope

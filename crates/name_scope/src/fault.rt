@@ -1,5 +1,6 @@
 //! Why a name stands for nothing.
 use cic_names::GlobalId;
+use memory::OutOfMemory;
 
 /// Why a name stands for nothing. Texts are as they are written.
 #[derive(Drop)]
@@ -13,4 +14,15 @@ pub enum NameFault<'a> {
         two: GlobalId,
     },
     NoMemory,
+}
+
+impl<'a, E: OutOfMemory> From<E> for NameFault<'a> {
+    ghost use Rattle.std.specs.Prelude.{◌≡◌};
+    ghost use Rattle.name_scope.specs.declared.fault.NameFault.TheVariants.{NoMemory};
+
+    ghost from_gives = { λ _ fault. fault ≡ NoMemory };
+
+    fn from(_fault: E) -> NameFault<'a> {
+        NameFault::NoMemory
+    }
 }

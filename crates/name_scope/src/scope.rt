@@ -1,10 +1,15 @@
 //! What names mean at a place of a library.
+ghost use Rattle.std.specs.Prelude.{◌≡◌};
+ghost use Rattle.gal_scoping.specs.Levels.{declared_level};
+
 use crate::counts::Counts;
 use crate::fault::NameFault;
 use crate::imports::Imports;
 use crate::libraries::Libraries;
+use crate::lookup::{foreign, own_id, short};
 use crate::name_set::NameSet;
-use cic_names::{GlobalId, Level, LibName, Name};
+use crate::written::{Parts, cut_at_dot};
+use cic_names::{GlobalId, Level, LevelName, LibName, Name, Part};
 use gal_raw::QualifiedName;
 use memory::NoMemory;
 use std::alloc::Global;
@@ -27,17 +32,29 @@ pub struct Scope {
     counts: Counts,
 }
 
+fn declared(id: GlobalId) -> Level
+    ensures { result ≡ declared_level id }
+{
+    Level::Named(LevelName {
+        lib: id.lib,
+        owner: id.name,
+        part: Part::Declared,
+    })
+}
+
 impl Scope {
-    ghost use Rattle.std.specs.Prelude.{◌≡◌, ◌+◌, ◌<◌, ◌^◌, ◌++◌, ◌∷◌, [], Ok, Err, IfOk, OnOk, OnErr, if◌then◌else◌};
-    ghost use Rattle.std.specs.Option.{option_copied};
-    ghost use Rattle.memory.specs.Telling.{IfReason};
-    ghost use Rattle.gal_raw.specs.Denotes.{qualified};
-    ghost use Rattle.gal_scoping.specs.Names.{has_own, written, global_id};
-    ghost use Rattle.gal_scoping.specs.Levels.{Owner, level_named};
+    ghost use Rattle.std.specs.Prelude.{◌≡◌, ◌+◌, ◌<◌, ◌^◌, ◌++◌, ◌∷◌, [], Some, Ok, Err, IfOk, OnOk, OnErr, if◌then◌else◌};
+    ghost use Rattle.std.specs.Option.{option_copied, option_map};
+    ghost use Rattle.memory.specs.Telling.{IfReason, Tells};
+    ghost use Rattle.gal_raw.specs.Denotes.{qualified as denoted};
+    ghost use Rattle.gal_scoping.specs.Names.{has_own, has_name, words_of, qualified_id, qualified, written, global_id};
+    ghost use Rattle.gal_scoping.specs.Levels.{Owner, level_id, level_named, declared_level, qualified_level};
     ghost use Rattle.name_scope.specs.Faults.{fault};
     ghost use Rattle.name_scope.specs.Held.{scope_of, variables_of, taken_of, empty_scope};
     ghost use Rattle.name_scope.specs.calls.Changes.{Joins, Leaves, Brings, Allows, Takes};
-    ghost use Rattle.name_scope.specs.calls.Answers.{IsFaultOf, IsSame};
+    ghost use Rattle.name_scope.specs.Parts.{id_written};
+    ghost use Rattle.name_scope.specs.calls.Readable.{IsFaultOf};
+    ghost use Rattle.name_scope.specs.calls.Answers.{IsSame};
 
     /// The scope of a library of which nothing is known yet. The prefix may be written before the names of libraries.
     pub fn new(alloc: Global, library: &LibName, prefix: Option<&Name>) -> Result<Scope, NoMemory>
@@ -45,7 +62,23 @@ impl Scope {
         ensures variables { IfOk result (λ s. variables_of s ≡ []) }
         ensures taken { IfOk result (λ s. (owner : Owner) → taken_of s owner ≡ 0) }
     {
-        Err(NoMemory)
+        let library = library.clone()?;
+        let prefix = match prefix {
+            None => None,
+            Some(prefix) => Some(prefix.clone()?),
+        };
+        Ok(Scope {
+            alloc,
+            library,
+            prefix,
+            allowed: Libraries::new(alloc),
+            brought: Imports::new(alloc),
+            brought_levels: Imports::new(alloc),
+            own: NameSet::new(alloc),
+            own_levels: NameSet::new(alloc),
+            variables: NameSet::new(alloc),
+            counts: Counts::new(alloc),
+        })
     }
 
     /// The library.
@@ -76,20 +109,113 @@ impl Scope {
         self.variables.get(name).is_some()
     }
 
+    fn is_prefix(&self, text: &[u8]) -> bool
+        ensures { result ≡ has_name text.now (scope_of self.now).prefix }
+    {
+        match &self.prefix {
+            None => false,
+            Some(prefix) => text == prefix.bytes(),
+        }
+    }
+
+    /// The library and the name that a qualified name is made of.
+    fn parts<'a>(&self, text: &'a [u8]) -> Option<Parts<'a>>
+        ensures { option_map id_written result ≡ qualified_id (scope_of self.now) (words_of text.now) }
+    {
+        let (first, rest) = cut_at_dot(text)?;
+        match cut_at_dot(rest) {
+            None => Some(Parts {
+                library: first,
+                name: rest,
+            }),
+            Some((second, last)) => self.prefixed(first, second, last),
+        }
+    }
+
+    /// The same where there are two dots or more.
+    fn prefixed<'a>(&self, prefix: &[u8], library: &'a [u8], name: &'a [u8]) -> Option<Parts<'a>>
+        ensures { option_map id_written result ≡ qualified_id (scope_of self.now) (prefix.now ∷ library.now ∷ words_of name.now) }
+    {
+        if self.is_prefix(prefix) && cut_at_dot(name).is_none() {
+            Some(Parts { library, name })
+        } else {
+            None
+        }
+    }
+
+    fn qualified_global<'a>(
+        &self,
+        parts: Parts<'a>,
+        written: &'a [u8],
+    ) -> Result<GlobalId, NameFault<'a>>
+        ensures found { IfOk result (λ id. qualified (scope_of self.now) written.now (Some (id_written parts.entry)) ≡ Ok id) }
+        ensures fault { IfReason fault result (IsFaultOf written.now (qualified (scope_of self.now) written.now (Some (id_written parts.entry)))) }
+    {
+        if self.library.bytes() == parts.library {
+            return own_id(&self.library, &self.own, parts.name, written);
+        }
+        match self.allowed.get(parts.library) {
+            None => Err(NameFault::Unknown(written)),
+            Some(library) => foreign(self.alloc, &library.name, parts.name, written),
+        }
+    }
+
+    fn qualified_level<'a>(
+        &self,
+        parts: Parts<'a>,
+        written: &'a [u8],
+    ) -> Result<GlobalId, NameFault<'a>>
+        ensures { Tells fault result (λ id. qualified_level (scope_of self.now) written.now (Some (id_written parts.entry)) ≡ Ok id) (λ f. qualified_level (scope_of self.now) written.now (Some (id_written parts.entry)) ≡ Err f) }
+    {
+        if self.library.bytes() == parts.library {
+            return own_id(&self.library, &self.own_levels, parts.name, written);
+        }
+        match self.allowed.get(parts.library) {
+            None => Err(NameFault::Unknown(written)),
+            Some(library) => own_id(&library.name, &library.levels, parts.name, written),
+        }
+    }
+
+    fn level_id<'a>(&self, x: &QualifiedName<'a>) -> Result<GlobalId, NameFault<'a>>
+        ensures { Tells fault result (λ id. level_id (scope_of self.now) (denoted x.now) ≡ Ok id) (λ f. level_id (scope_of self.now) (denoted x.now) ≡ Err f) }
+    {
+        match x {
+            QualifiedName::Short(x) => short(
+                &self.library,
+                &self.own_levels,
+                &self.brought_levels,
+                x.text,
+            ),
+            QualifiedName::Long(x) => match self.parts(x.text) {
+                None => Err(NameFault::Unknown(x.text)),
+                Some(parts) => self.qualified_level(parts, x.text),
+            },
+        }
+    }
+
     /// The id that a name stands for where no binder has it.
     pub fn global<'a>(&self, x: &QualifiedName<'a>) -> Result<GlobalId, NameFault<'a>>
-        ensures found { IfOk result (λ id. global_id (scope_of self.now) (qualified x.now) ≡ Ok id) }
-        ensures fault { IfReason fault result (IsFaultOf (written (qualified x.now)) (global_id (scope_of self.now) (qualified x.now))) }
+        ensures found { IfOk result (λ id. global_id (scope_of self.now) (denoted x.now) ≡ Ok id) }
+        ensures fault { IfReason fault result (IsFaultOf (written (denoted x.now)) (global_id (scope_of self.now) (denoted x.now))) }
     {
-        Err(NameFault::NoMemory)
+        match x {
+            QualifiedName::Short(x) => short(&self.library, &self.own, &self.brought, x.text),
+            QualifiedName::Long(x) => match self.parts(x.text) {
+                None => Err(NameFault::Unknown(x.text)),
+                Some(parts) => self.qualified_global(parts, x.text),
+            },
+        }
     }
 
     /// The level that a name stands for.
     pub fn level<'a>(&self, x: &QualifiedName<'a>) -> Result<Level, NameFault<'a>>
-        ensures found { IfOk result (λ level. level_named (scope_of self.now) (qualified x.now) ≡ Ok level) }
-        ensures fault { IfReason fault result (λ f. level_named (scope_of self.now) (qualified x.now) ≡ Err f) }
+        ensures found { IfOk result (λ level. level_named (scope_of self.now) (denoted x.now) ≡ Ok level) }
+        ensures fault { IfReason fault result (λ f. level_named (scope_of self.now) (denoted x.now) ≡ Err f) }
     {
-        Err(NameFault::NoMemory)
+        match self.level_id(x) {
+            Ok(id) => Ok(declared(id)),
+            Err(fault) => Err(fault),
+        }
     }
 
     /// Allows the names of a library, which declares these levels.
@@ -100,7 +226,7 @@ impl Scope {
         ensures taken { taken_of self.new ≡ taken_of self.old }
         ensures same { OnErr result (IsSame self.old self.new) }
     {
-        Err(NoMemory)
+        self.allowed.allow(library, levels)
     }
 
     /// Brings an id, as imports do.
@@ -111,7 +237,7 @@ impl Scope {
         ensures taken { taken_of self.new ≡ taken_of self.old }
         ensures same { OnErr result (IsSame self.old self.new) }
     {
-        Err(NoMemory)
+        self.brought.bring(id)
     }
 
     /// Brings a level, by its library and name.
@@ -122,7 +248,7 @@ impl Scope {
         ensures taken { taken_of self.new ≡ taken_of self.old }
         ensures same { OnErr result (IsSame self.old self.new) }
     {
-        Err(NoMemory)
+        self.brought_levels.bring(level)
     }
 
     /// Adds a name of a declaration or a constructor to the library's own.
@@ -133,7 +259,7 @@ impl Scope {
         ensures taken { taken_of self.new ≡ taken_of self.old }
         ensures same { OnErr result (IsSame self.old self.new) }
     {
-        Err(NoMemory)
+        self.own.insert(name)
     }
 
     /// Adds a level to the library's own.
@@ -144,7 +270,7 @@ impl Scope {
         ensures taken { taken_of self.new ≡ taken_of self.old }
         ensures same { OnErr result (IsSame self.old self.new) }
     {
-        Err(NoMemory)
+        self.own_levels.insert(name)
     }
 
     /// Adds the name of a section variable to the library's own names.
@@ -155,7 +281,15 @@ impl Scope {
         ensures taken { taken_of self.new ≡ taken_of self.old }
         ensures same { OnErr result (IsSame self.old self.new) }
     {
-        Err(NoMemory)
+        let count = self.own.len();
+        self.own.insert(name)?;
+        match self.variables.insert(name) {
+            Ok(()) => Ok(()),
+            Err(fault) => {
+                self.own.cut(count);
+                Err(fault)
+            }
+        }
     }
 
     /// Takes away the name of a section variable that is live no more.
@@ -184,6 +318,6 @@ impl Scope {
         ensures variables { variables_of self.new ≡ variables_of self.old }
         ensures same { OnErr result (taken_of self.new ≡ taken_of self.old) }
     {
-        Err(NoMemory)
+        self.counts.take(owner, opaque, count)
     }
 }

@@ -1,5 +1,5 @@
 -- What additions do. Each says for every name what is told of it afterwards, so that the order in which things are kept does not matter.
-use Rattle.std.specs.Prelude.{◌≡◌, ◌||◌, ◌&&◌, ◌++◌, ◌∷◌, [], ◌+◌, ℕ, Bool, List, not, filter, false, if◌then◌else◌}
+use Rattle.std.specs.Prelude.{◌≡◌, ◌||◌, ◌&&◌, ◌++◌, ◌∷◌, [], ◌+◌, ℕ, Bool, List, not, filter, fold, false, if◌then◌else◌}
 use Rattle.std.specs.List.{list_any}
 use Rattle.std.proofs.Math.Bool.{beq}
 use Rattle.cic_names.specs.declared.name.GlobalId.{GlobalId}
@@ -16,6 +16,13 @@ Joins name before after = (other : List ℕ) → has_own after other ≡ (same_n
 -- The name is there no more.
 abbrev pub Leaves : (name : List ℕ) → (before after : List (List ℕ)) → Type 0
 Leaves name before after = (other : List ℕ) → has_own after other ≡ (not (same_name other name) && has_own before other)
+
+-- The names with one more behind them, unless it is there.
+abbrev pub with_name : List (List ℕ) → (name : List ℕ) → List (List ℕ)
+with_name names name = if has_own names name then names else names ++ name ∷ []
+
+abbrev pub with_names : List (List ℕ) → (more : List (List ℕ)) → List (List ℕ)
+with_names names more = fold with_name names more
 
 -- What imports bring for a name, where they brought these ids.
 abbrev pub imported_of : (brought : List GlobalId) → (name : List ℕ) → Reading GlobalId
