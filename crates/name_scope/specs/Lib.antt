@@ -1,0 +1,9 @@
+pub mod Faults
+pub mod Counting
+pub mod Tables
+pub mod Kept
+pub mod Permitted
+pub mod Held
+pub mod Parts
+pub mod Answering
+pub mod calls

@@ -1,0 +1,17 @@
+//! What names mean at a place of a library. Coq Reference Manual, "Libraries and qualified names".
+#![tactic(auto)]
+
+mod brought;
+mod counts;
+mod fault;
+mod imports;
+mod libraries;
+mod library;
+mod lookup;
+mod name_set;
+mod scope;
+mod table;
+mod written;
+
+pub use fault::NameFault;
+pub use scope::Scope;
