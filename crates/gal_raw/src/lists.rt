@@ -2,7 +2,7 @@
 ghost use Rattle.std.specs.Prelude.{◌≡◌, OnOk, map};
 ghost use Rattle.std.specs.Option.{option_map};
 ghost use Rattle.gal_grammar.specs.Terms as S;
-ghost use Rattle.gal_raw.specs.Denotes.{tree, identifier, qualified, binder, application, groups, functions, branches};
+ghost use Rattle.gal_raw.specs.Denotes.{tree, identifier, qualified, binder, application, applied, groups, functions, branches};
 ghost use Rattle.gal_raw.specs.calls.Lists.{group_list, function_list, branch_list};
 
 use crate::names::{Binder, Identifier, QualifiedName};
@@ -29,6 +29,13 @@ impl<'a> Application<'a> {
             Ok(()) => Ok(()),
             Err(_) => Err(AllocError),
         }
+    }
+
+    /// The arguments in order.
+    pub fn arguments(&self) -> &[Raw<'a>]
+        ensures { application self.now ≡ applied (tree self.now.head.value) result.now }
+    {
+        self.arguments.as_slice()
     }
 }
 
