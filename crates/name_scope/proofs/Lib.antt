@@ -5,3 +5,4 @@ pub mod ImportLaws
 pub mod LibraryLaws
 pub mod WordLaws
 pub mod AnswerLaws
+pub mod AgreementLaws

@@ -6,4 +6,5 @@ pub mod Permitted
 pub mod Held
 pub mod Parts
 pub mod Answering
+pub mod Agreement
 pub mod calls

@@ -5,6 +5,7 @@ mod brought;
 mod counts;
 mod fault;
 mod imports;
+mod laws;
 mod libraries;
 mod library;
 mod lookup;
@@ -14,4 +15,5 @@ mod table;
 mod written;
 
 pub use fault::NameFault;
+pub use laws::kept_stands_for_all;
 pub use scope::Scope;
