@@ -1,6 +1,6 @@
 -- Declarations generalised over hypotheses (Coq Reference Manual, "Section mechanism": what `End` makes of the
 -- declarations of a section).
-use Rattle.std.specs.Prelude.{◌+◌, Option, option_map, Some, None, List, [], ◌∷◌, map, length, if◌then◌else◌}
+use Rattle.std.specs.Prelude.{◌+◌, ◌≤◌, Option, option_map, Some, None, List, [], ◌∷◌, map, length, if◌then◌else◌}
 use Rattle.cic_names.specs.declared.name.GlobalId.{GlobalId}
 use Rattle.cic_names.specs.Sameness.{same_id}
 use Rattle.cic_terms.specs.Tree.{Former, ConstF, IndF, CtorF, Tree, rel, node, no_child, prod, lam, let_in, const, ind, ctor}
@@ -91,7 +91,7 @@ generalised arguments hs (transparent id type body) = transparent id (generalise
 generalised arguments hs (opaque id type body) = opaque id (generalised_type arguments hs type) (option_map (generalised_body arguments hs) body)
 generalised arguments hs (inductive block) = inductive (generalised_block arguments hs block)
 
--- Each term of a declaration is within the limits of a term.
+-- Each term of a declaration is within the limits of a term, and the number of parameters is one of 32 bits.
 abbrev pub BodyFits : Option Tree → Type 0
 BodyFits None = Unit {0}
 BodyFits (Some t) = Fits 4000 t
@@ -108,4 +108,4 @@ abbrev pub DeclarationFits : Declaration → Type 0
 DeclarationFits (axiom_of id type) = Fits 4000 type
 DeclarationFits (transparent id type body) = Fits 4000 type × Fits 4000 body
 DeclarationFits (opaque id type body) = Fits 4000 type × BodyFits body
-DeclarationFits (inductive block) = TypesFit block.types
+DeclarationFits (inductive block) = (block.parameters ≤ 4294967295) × TypesFit block.types

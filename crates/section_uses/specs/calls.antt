@@ -1,2 +1,3 @@
 -- Words that state contracts of calls.
 pub mod Closing
+pub mod Layers
