@@ -1,7 +1,14 @@
-//! Terms and ids as text. A binder is named by its number, and a product whose variable is not used is an
-//! arrow. The texts stand in `specs/` as a relation between terms and lists of bytes.
+//! Terms as text, over an environment that tells of the types of matches. A binder is named by its number, and a
+//! product whose variable is not used is an arrow. The texts stand in `specs/` as functions of trees.
 #![tactic(auto)]
 
+mod heads;
+pub mod laws;
+mod names;
+mod output;
+mod pieces;
 mod printing;
+mod term;
 
-pub use printing::{print_term, push_number, push_part, terms_have_one_text};
+pub use pieces::{push_number, push_part};
+pub use term::print_term;
