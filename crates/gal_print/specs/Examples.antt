@@ -2,19 +2,22 @@
 use Rattle.std.specs.Prelude.{ℕ, List, [], ◌∷◌, codes}
 use Rattle.cic_names.specs.declared.name.GlobalId.{GlobalId}
 use Rattle.cic_terms.specs.Tree.{Tree, rel, no_child, child, many, sort, prop, set, prod, lam, app, case, fix}
-use Rattle.cic_rules.specs.Environment.{Environment, declared, inductive}
+use Rattle.cic_rules.specs.Environment.{Environment, Declaration, declared, inductive}
 
 -- An id of the library A.
 abbrev pub named : (name : List ℕ) → GlobalId
 named name = record { lib = codes "A"; name = name }
 
 -- The type A.V, with one parameter and the constructor A.nil. The types do not matter.
-abbrev pub vectors : Environment
-vectors =
-    declared (inductive (record {
+abbrev pub vector : Declaration
+vector =
+    inductive (record {
       parameters = 1;
-      types = record { id = named (codes "V"); arity = sort set; constructors = record { id = named (codes "nil"); type = sort set } ∷ [] } ∷ [];
-    })) ∷ []
+      types = record { id = named (codes "V"); arity = sort set; constructors = record { id = named (codes "nil"); type = sort prop } ∷ [] } ∷ [];
+    })
+
+abbrev pub vectors : Environment
+vectors = declared vector ∷ []
 
 -- A match on the innermost variable, with one index, and a branch under two arguments.
 abbrev pub match_on : GlobalId → Tree

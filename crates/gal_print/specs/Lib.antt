@@ -2,6 +2,8 @@
 pub mod Sorts
 pub mod Heads
 pub mod Printing
+pub mod Declarations
 pub mod Examples
 pub mod Appending
+pub mod Sent
 pub mod calls

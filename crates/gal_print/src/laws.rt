@@ -1,11 +1,12 @@
-//! Texts of small terms, over any environment where nothing else is said. Each function has an empty body, and its contract is the law.
-ghost use Rattle.std.specs.Prelude.{◌≡◌, ◌∷◌, [], ℕ, codes};
+//! Texts of small terms and declarations, over any environment where nothing else is said. Each function has an empty body, and its contract is the law.
+ghost use Rattle.std.specs.Prelude.{◌≡◌, ◌∷◌, [], ℕ, Some, codes};
 ghost use Rattle.cic_names.specs.declared.name.GlobalId.{GlobalId};
 ghost use Rattle.cic_terms.specs.Tree.{rel, sort, prop, set, prod, let_in, app};
-ghost use Rattle.cic_rules.specs.Environment.{Environment, Block, bare};
+ghost use Rattle.cic_rules.specs.Environment.{Environment, Block, bare, axiom_of, transparent, opaque};
 ghost use Rattle.gal_print.specs.Heads.{heads, unknown_heads};
 ghost use Rattle.gal_print.specs.Printing.{term_text};
-ghost use Rattle.gal_print.specs.Examples.{named, vectors, match_on, unused_in_used, identity, two_functions};
+ghost use Rattle.gal_print.specs.Declarations.{declaration_text};
+ghost use Rattle.gal_print.specs.Examples.{named, vector, vectors, match_on, unused_in_used, identity, two_functions};
 
 /// Entries of the context are named first. A variable past them is printed by what its number is past them.
 pub fn variables_are_named()
@@ -50,4 +51,12 @@ pub fn a_bare_block_is_not_there()
 pub fn functions_are_numbered_first()
     ensures { (E : Environment) → term_text E 1 two_functions
         ≡ codes "fix x1 (x3 : Prop) (x4 : x3) {struct x4} : x4 := (fun x5 : Prop => x5) with x2 (x3 : x0) {struct x3} : ?0 := x1 x0 for x2" }
+{}
+
+/// A declaration has a line for each of its ids, and one more for a body that is shown. An opaque body is not.
+pub fn declarations_are_printed_in_lines()
+    ensures axiom { (E : Environment) → declaration_text E (axiom_of (named (codes "c")) (sort set)) ≡ codes "A.c : Set\n" }
+    ensures transparent { (E : Environment) → declaration_text E (transparent (named (codes "c")) (sort set) (sort prop)) ≡ codes "A.c : Set\nA.c := Prop\n" }
+    ensures opaque { (E : Environment) → declaration_text E (opaque (named (codes "c")) (sort set) (Some (sort prop))) ≡ codes "A.c : Set\n" }
+    ensures block { (E : Environment) → declaration_text E vector ≡ codes "A.V : Set\nA.nil : Prop\n" }
 {}
