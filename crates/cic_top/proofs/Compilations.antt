@@ -16,10 +16,8 @@ use Rattle.cic_env.proofs.Newness.{new-one}
 use Rattle.cic_kernel.proofs.NewIds.{distinct_with_declaration}
 use Rattle.gal_parser.specs.Grammar.{RawTerm, Sentence}
 use Rattle.gal_elab.specs.Scoping.{Binders, id_of, StandsFor, prop_stands, variable_stands, constant_stands, for_all_stands, arrow_stands}
-use Rattle.gal_print.specs.Printing.{HasText, prop_has_text, variable_has_text, constant_has_text, product_has_text, Prints}
-use Rattle.gal_print.proofs.Texts.{text_of}
 use Rattle.cic_top.specs.Refusals.{Refusal}
-use Rattle.cic_top.specs.Texts.{not_sort_text, unbound_id_text, unbound_variable_text, no_item, one_axiom, not_yet_line, duplicate_line, unknown_line, ill_line, spent_line, deep_line}
+use Rattle.cic_top.specs.Texts.{AxiomLine, AxiomLines, not_sort_text, unbound_id_text, unbound_variable_text, no_item, one_axiom, not_yet_line, duplicate_line, unknown_line, ill_line, spent_line, deep_line}
 use Rattle.cic_top.specs.calls.Lines.{HasCauseText, HasAxiomLines, HasLine}
 use Rattle.cic_top.specs.Compilation.{Adds, adds_axiom, IsRefused, duplicate_name, unknown_name, not_accepted, check_refusal, default_budget, Compiled, environment, refusal, Runs, all_run, one_adds, one_is_refused, Compiles, is_not_yet, is_read}
 
@@ -31,27 +29,24 @@ stands_of_language (constant_stands none has is) = subst TermOfLanguage (sym is)
 stands_of_language (for_all_stands h k) = (stands_of_language h, stands_of_language k)
 stands_of_language (arrow_stands h k) = (stands_of_language h, stands_of_language k)
 
--- Terms of the language are printed, and so are its causes and the lists of its axioms.
-has_text : (t : Tree) → TermOfLanguage t → HasText t
-has_text (rel x) h = variable_has_text
-has_text (sort s) h = subst (λ z. HasText (sort z)) (sym h) prop_has_text
-has_text (const c) h = constant_has_text
-has_text (prod a b) h = product_has_text (has_text a h.0) (has_text b h.1)
-has_text t h = absurd h
-
+-- The causes of the language are told, and its axioms have lines.
 cause_text : (cause : Cause) → CauseOfLanguage cause → HasCauseText cause
 cause_text (unbound (global id)) h = (_, unbound_id_text)
 cause_text (unbound (local k)) h = (_, unbound_variable_text)
-cause_text (not_sort depth form) h = let p = text_of (has_text form h) depth in (_, not_sort_text p.1)
+cause_text (not_sort depth form) h = (_, not_sort_text)
 cause_text cause h = absurd h
 
-one_line : {E : Environment} (id : GlobalId) (type : Tree) → ((text : List ℕ) × Prints 0 type text) → HasAxiomLines E → HasAxiomLines (declared (axiom_of id type) ∷ E)
-one_line id type p lines = (_, one_axiom p.1 lines.1)
+one_line : {over E : Environment} (id : GlobalId) (type : Tree) → ((lines : List AxiomLine) × AxiomLines over E lines) →
+    (lines : List AxiomLine) × AxiomLines over (declared (axiom_of id type) ∷ E) lines
+one_line id type lines = (_, one_axiom lines.1)
+
+lines_over : (over E : Environment) → EnvironmentOfLanguage E → (lines : List AxiomLine) × AxiomLines over E lines
+lines_over over [] h = ([], no_item)
+lines_over over (declared (axiom_of id type) ∷ E) h = one_line id type (lines_over over E h.1)
+lines_over over (item ∷ E) h = absurd h.0
 
 axioms_have_lines : (E : Environment) → EnvironmentOfLanguage E → HasAxiomLines E
-axioms_have_lines [] h = ([], no_item)
-axioms_have_lines (declared (axiom_of id type) ∷ E) h = one_line id type (text_of (has_text type h.0) 0) (axioms_have_lines E h.1)
-axioms_have_lines (item ∷ E) h = absurd h.0
+axioms_have_lines E h = lines_over E E h
 
 -- A sentence that adds an axiom keeps the environment in the language, and one that is refused has a line.
 pub adds_of_language : {library : List ℕ} {E E' : Environment} {s : Sentence} → EnvironmentOfLanguage E → Adds library E s E' → EnvironmentOfLanguage E'

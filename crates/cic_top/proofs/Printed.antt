@@ -20,28 +20,24 @@ use Rattle.cic_rules.specs.Environment.{Environment, declared, axiom_of}
 use Rattle.cic_env.specs.Items.{as_item}
 use Rattle.cic_env.specs.declared.item.Item.{Item}
 use Rattle.cic_counted.specs.Outcome.{Cause, Missing, unbound, global, local, not_sort}
-use Rattle.gal_print.specs.Printing.{HasText, Prints}
+use Rattle.gal_print.specs.Printing.{term_text}
 use Rattle.gal_print.specs.Appending.{Appends}
-use Rattle.gal_print.proofs.OneText.{one_text}
-use Rattle.gal_print.proofs.Texts.{printed_has_text}
 use Rattle.cic_top.specs.Refusals.{Refusal, no_file, not_yet, duplicate, unknown, ill, spent, deep}
 use Rattle.cic_top.specs.Texts.{IsCauseText, not_sort_text, unbound_id_text, unbound_variable_text, AxiomLine, AxiomLines, no_item, one_axiom, put_line, insert_line, insert_lines, axiom_list, IsAxiomList, error_line, IsRefusalLine, no_file_line, not_yet_line, duplicate_line, unknown_line, ill_line, spent_line, deep_line}
 use Rattle.cic_top.specs.calls.Lines.{IsAxiom, HasCauseText, line_of, lines_of, AreSortedAxioms}
 
 -- What the lines of an environment say of its first axiom.
-pub record FirstAxiom (id : GlobalId) (type : Tree) (E : Environment) (lines : List AxiomLine) : Type 0 where
-  pub text : List ℕ
+pub record FirstAxiom (over : Environment) (id : GlobalId) (type : Tree) (E : Environment) (lines : List AxiomLine) : Type 0 where
   pub rest : List AxiomLine
-  pub is_printed : Prints 0 type text
-  pub others : AxiomLines E rest
-  pub is : lines ≡ record { id = id_text id; type = text } ∷ rest
+  pub others : AxiomLines over E rest
+  pub is : lines ≡ record { id = id_text id; type = term_text over 0 type } ∷ rest
 
-pub first_axiom : {id : GlobalId} {type : Tree} {E : Environment} {lines : List AxiomLine} →
-    AxiomLines (declared (axiom_of id type) ∷ E) lines →
-    FirstAxiom id type E lines
-first_axiom (one_axiom {text = text} {lines = lines} p others) = record { text = text; rest = lines; is_printed = p; others = others; is = refl }
+pub first_axiom : {over : Environment} {id : GlobalId} {type : Tree} {E : Environment} {lines : List AxiomLine} →
+    AxiomLines over (declared (axiom_of id type) ∷ E) lines →
+    FirstAxiom over id type E lines
+first_axiom (one_axiom {lines = lines} others) = record { rest = lines; others = others; is = refl }
 
-pub no_line : {lines : List AxiomLine} → AxiomLines [] lines → lines ≡ []
+pub no_line : {over : Environment} {lines : List AxiomLine} → AxiomLines over [] lines → lines ≡ []
 no_line no_item = refl
 
 -- An entry put into a map of entries is its line put among their lines.
@@ -86,16 +82,16 @@ no_sorted_line lines e = (sorted_none [] lines e).1
 pub record SortedSoFar (E left : Environment) (sorted : List AxiomLine) : Type 0 where
   pub lines : List AxiomLine
   pub rest : List AxiomLine
-  pub each : AxiomLines E lines
-  pub each_left : AxiomLines left rest
+  pub each : AxiomLines E E lines
+  pub each_left : AxiomLines E left rest
   pub order : insert_lines sorted rest ≡ insert_lines [] lines
 
-pub sorted_at_start : (E left : Environment) (lines : List AxiomLine) → left ≡ E → AxiomLines E lines → SortedSoFar E left []
+pub sorted_at_start : (E left : Environment) (lines : List AxiomLine) → left ≡ E → AxiomLines E E lines → SortedSoFar E left []
 sorted_at_start E left lines same each = record {
   lines = lines;
   rest = lines;
   each = each;
-  each_left = subst (λ (F : Environment). AxiomLines F lines) (sym same) each;
+  each_left = subst (λ (F : Environment). AxiomLines E F lines) (sym same) each;
   order = refl;
 }
 
@@ -103,13 +99,12 @@ sorted_at_start E left lines same each = record {
 pub sorted_more : (E left : Environment) (id : GlobalId) (type : Tree) (entries : List (String Global × String Global)) (key value : String Global) →
     SortedSoFar E (declared (axiom_of id type) ∷ left) (lines_of entries) →
     string_bytes key ≡ id_text id →
-    Prints 0 type (string_bytes value) →
+    string_bytes value ≡ term_text E 0 type →
     SortedSoFar E left (lines_of (insert_entry string_cmp entries key value))
 sorted_more E left id type entries key value sorted named printed =
-    let first : FirstAxiom id type left sorted.rest = first_axiom sorted.each_left in
-    let typed : string_bytes value ≡ first.text = one_text printed first.is_printed in
+    let first : FirstAxiom E id type left sorted.rest = first_axiom sorted.each_left in
     let put : lines_of (insert_entry string_cmp entries key value) ≡ insert_line (lines_of entries) (line_of (key, value)) = insert_entry_line entries key value in
-    let line : line_of (key, value) ≡ record { id = id_text id; type = first.text } = cc in
+    let line : line_of (key, value) ≡ record { id = id_text id; type = term_text E 0 type } = cc in
     record {
       lines = sorted.lines;
       rest = first.rest;
@@ -121,7 +116,7 @@ sorted_more E left id type entries key value sorted named printed =
 
 pub sorted_at_end : (E left : Environment) (sorted : List AxiomLine) → left ≡ [] → SortedSoFar E left sorted → AreSortedAxioms E sorted
 sorted_at_end E left sorted none so_far =
-    let no : so_far.rest ≡ [] = no_line (subst (λ (F : Environment). AxiomLines F so_far.rest) none so_far.each_left) in
+    let no : so_far.rest ≡ [] = no_line (subst (λ (F : Environment). AxiomLines E F so_far.rest) none so_far.each_left) in
     record {
       lines = so_far.lines;
       each = so_far.each;
@@ -129,8 +124,8 @@ sorted_at_end E left sorted none so_far =
     }
 
 -- The first of the items that are left is an axiom.
-axiom_first : {item : R.Item} {E : Environment} {lines : List AxiomLine} → AxiomLines (item ∷ E) lines → IsAxiom item
-axiom_first (one_axiom p others) = tt
+axiom_first : {over : Environment} {item : R.Item} {E : Environment} {lines : List AxiomLine} → AxiomLines over (item ∷ E) lines → IsAxiom item
+axiom_first (one_axiom others) = tt
 
 next_left : (kept : List Item) (i : ℕ) (item : Item) → i < length kept → item ≡ get_or kept i item →
     map as_item (drop i kept) ≡ as_item item ∷ map as_item (drop (i + 1) kept)
@@ -143,7 +138,7 @@ pub left_axiom : (E : Environment) (sorted : List AxiomLine) (kept : List Item) 
     SortedSoFar E (map as_item (drop i kept)) sorted →
     IsAxiom (as_item item)
 left_axiom E sorted kept i item below is so_far =
-    axiom_first (subst (λ (F : Environment). AxiomLines F so_far.rest) (next_left kept i item below is) so_far.each_left)
+    axiom_first (subst (λ (F : Environment). AxiomLines E F so_far.rest) (next_left kept i item below is) so_far.each_left)
 
 pub first_left : (E : Environment) (sorted : List AxiomLine) (kept : List Item) (i : ℕ) (item : Item) (id : GlobalId) (type : Tree) →
     i < length kept →
@@ -155,13 +150,6 @@ first_left E sorted kept i item id type below is parts so_far =
     let left : map as_item (drop i kept) ≡ declared (axiom_of id type) ∷ map as_item (drop (i + 1) kept) =
     next_left kept i item below is ∙ ap (λ (d : R.Item). d ∷ map as_item (drop (i + 1) kept)) parts in
     subst (λ (F : Environment). SortedSoFar E F sorted) left so_far
-
-pub first_has_text : (E left : Environment) (sorted : List AxiomLine) (id : GlobalId) (type : Tree) →
-    SortedSoFar E (declared (axiom_of id type) ∷ left) sorted →
-    HasText type
-first_has_text E left sorted id type so_far =
-    let first : FirstAxiom id type left so_far.rest = first_axiom so_far.each_left in
-    printed_has_text first.is_printed
 
 -- The list where there is no axiom.
 pub closed_list : (E : Environment) (sorted : List AxiomLine) → AreSortedAxioms E sorted → sorted ≡ [] →
@@ -190,25 +178,15 @@ pub duplicate_text : (r : Refusal) (name text : List ℕ) → r ≡ duplicate na
     IsRefusalLine r text
 duplicate_text r name text is e = line_as r (duplicate name) text _ is (simp append_assoc e) duplicate_line
 
--- A term that was printed behind nothing.
-pub printed_alone : (t : Tree) (old new : List ℕ) → old ≡ [] → Appends (Prints 0 t) old new → Prints 0 t new
-printed_alone t old new none h = subst (Prints 0 t) (sym (h.text ∙ ap (λ (z : List ℕ). z ++ h.added) none)) h.is_such
-
 -- The causes of refusals, as their parts are put behind what was there.
 cause_at : (cause cause' : Cause) (old new text : List ℕ) → cause ≡ cause' → IsCauseText cause' text → new ≡ old ++ text → Appends (IsCauseText cause) old new
 cause_at cause cause' old new text same is e = record { added = text; is_such = subst (λ (c : Cause). IsCauseText c text) (sym same) is; text = e }
 
-of_not_sort : {depth : ℕ} {form : Tree} {text : List ℕ} → IsCauseText (not_sort depth form) text → HasText form
-of_not_sort (not_sort_text p) = printed_has_text p
-
-pub not_sort_has_text : (cause : Cause) (depth : ℕ) (form : Tree) → cause ≡ not_sort depth form → HasCauseText cause → HasText form
-not_sort_has_text cause depth form e h = of_not_sort (subst (λ (c : Cause). IsCauseText c h.0) e h.1)
-
-pub not_sort_appended : (cause : Cause) (depth : ℕ) (form : Tree) (old printed new : List ℕ) → cause ≡ not_sort depth form → Appends (Prints depth form) old printed → new ≡ printed ++ codes " is not a sort." →
+pub not_sort_appended : (cause : Cause) (depth : ℕ) (form : Tree) (old printed new : List ℕ) → cause ≡ not_sort depth form → printed ≡ old ++ term_text [] depth form → new ≡ printed ++ codes " is not a sort." →
     Appends (IsCauseText cause) old new
 not_sort_appended cause depth form old printed new is h e =
-    cause_at cause (not_sort depth form) old new (h.added ++ codes " is not a sort.") is (not_sort_text h.is_such)
-    (e ∙ ap (λ (z : List ℕ). z ++ codes " is not a sort.") h.text ∙ append_assoc old h.added (codes " is not a sort."))
+    cause_at cause (not_sort depth form) old new (term_text [] depth form ++ codes " is not a sort.") is not_sort_text
+    (e ∙ ap (λ (z : List ℕ). z ++ codes " is not a sort.") h ∙ append_assoc old (term_text [] depth form) (codes " is not a sort."))
 
 pub unbound_id_appended : (what : Missing) (id : GlobalId) (old new : List ℕ) → what ≡ global id → new ≡ old ++ (id_text id ++ codes " is unbound.") →
     Appends (IsCauseText (unbound what)) old new

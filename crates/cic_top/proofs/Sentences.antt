@@ -1,8 +1,8 @@
 -- What a sentence, the sentences in order and a source give, as the calls that compile them answer.
-use Rattle.std.proofs.Common.{ℕ, zero, suc, List, [], ◌∷◌, ◌≡◌, ◌≤◌, ◌<◌, ◌+◌, length, drop, refl, sym, ap, subst, ◌∙◌, add-one, arith}
+use Rattle.std.proofs.Common.{ℕ, zero, suc, List, [], ◌∷◌, ◌≡◌, ◌≤◌, ◌<◌, ◌+◌, ◌↔◌, length, drop, refl, sym, ap, subst, ◌∙◌, add-one, arith, Bool, true, false}
 use Rattle.std.proofs.Math.ListN.{get_or}
 use Rattle.std.proofs.Math.Seq.{drop-cons}
-use Rattle.std.specs.Prelude.{Result, Ok, Err}
+use Rattle.std.specs.Prelude.{Result, Ok, Err, IsTrue}
 use Rattle.cic_terms.specs.Tree.{Tree}
 use Rattle.cic_rules.specs.Environment.{Environment}
 use Rattle.gal_parser.specs.Grammar.{RawTerm, axiom_sentence, Reads, NotYetAt}
@@ -16,6 +16,15 @@ use Rattle.cic_top.specs.calls.Compiling.{StopsFor, TypeOrUnknown, DeclaresOrRef
 use Rattle.cic_top.specs.Views.{refusal_of}
 use Rattle.cic_top.specs.declared.compiling.Stop.{Stop}
 use Rattle.cic_top.specs.declared.compiling.Stop.TheVariants.{Refused, NoMemory}
+
+-- What a test says.
+pub where_true : (b : Bool) {P : Type 0} → b ≡ true → (IsTrue b ↔ P) → P
+where_true true e p = p.0 refl
+where_true false e p = absurd (grind arith)
+
+pub where_false : (b : Bool) {P : Type 0} → b ≡ false → (IsTrue b ↔ P) → ¬ P
+where_false false e p = λ x. absurd (let h = p.1 x in grind (arith, h))
+where_false true e p = absurd (grind arith)
 
 -- A sentence whose name is new adds its axiom, or is refused as the check of the axiom is.
 pub adds_or_refuses : (library name : List ℕ) (raw : RawTerm) (type : Tree) (old new : Environment) (result : Result (Unit {0}) Stop) →

@@ -9,7 +9,7 @@ use Rattle.cic_names.specs.declared.name.GlobalId.{GlobalId}
 use Rattle.cic_names.specs.Texts.{id_text}
 use Rattle.cic_rules.specs.Environment.{Environment, declared, axiom_of}
 use Rattle.cic_counted.specs.Outcome.{Cause, unbound, global, local, not_sort}
-use Rattle.gal_print.specs.Printing.{Prints}
+use Rattle.gal_print.specs.Printing.{term_text}
 use Rattle.cic_top.specs.Refusals.{Refusal, no_file, not_yet, duplicate, unknown, ill, spent, deep}
 
 -- A line of the list of axioms: a printed id and a printed type.
@@ -20,13 +20,13 @@ pub record AxiomLine : Type 0 where
 abbrev pub line_text : AxiomLine → List ℕ
 line_text line = line.id ++ codes " : " ++ line.type ++ codes "\n"
 
--- The axioms of an environment in order of declaration, each as a line.
-pub data AxiomLines : Environment → List AxiomLine → Type 0 where
-  no_item : AxiomLines [] []
-  one_axiom : {E : Environment} {id : GlobalId} {type : Tree} {text : List ℕ} {lines : List AxiomLine} →
-      Prints 0 type text →
-      AxiomLines E lines →
-      AxiomLines (declared (axiom_of id type) ∷ E) (record { id = id_text id; type = text } ∷ lines)
+-- The axioms of an environment in order of declaration, each as a line. Types are printed over the environment
+-- `over`.
+pub data AxiomLines (over : Environment) : Environment → List AxiomLine → Type 0 where
+  no_item : AxiomLines over [] []
+  one_axiom : {E : Environment} {id : GlobalId} {type : Tree} {lines : List AxiomLine} →
+      AxiomLines over E lines →
+      AxiomLines over (declared (axiom_of id type) ∷ E) (record { id = id_text id; type = term_text over 0 type } ∷ lines)
 
 -- Lines in the order of their printed ids as byte strings: each is put before the first that is above
 -- it. A line of the same id takes the place of the one before it; no two axioms have one id.
@@ -55,7 +55,7 @@ axiom_list (line ∷ lines) = codes "Axioms:\n" ++ lines_text (insert_lines [] (
 
 pub record IsAxiomList (E : Environment) (output : List ℕ) : Type 0 where
   pub lines : List AxiomLine
-  pub each : AxiomLines E lines
+  pub each : AxiomLines E E lines
   pub text : output ≡ axiom_list lines
 
 -- A line that tells an error.
@@ -67,11 +67,10 @@ abbrev pub word_line : ℕ → List ℕ
 word_line k = error_line (codes "word " ++ decimal k ++ codes " is not understood.")
 
 -- Why a declaration of the language is ill formed, as it is told. The term that is no sort stands in a
--- context of so many variables.
+-- context of so many variables. It has no match, so nothing that is declared shows in its text.
 pub data IsCauseText : Cause → List ℕ → Type 0 where
-  not_sort_text : {depth : ℕ} {form : Tree} {text : List ℕ} →
-      Prints depth form text →
-      IsCauseText (not_sort depth form) (text ++ codes " is not a sort.")
+  not_sort_text : {depth : ℕ} {form : Tree} →
+      IsCauseText (not_sort depth form) (term_text [] depth form ++ codes " is not a sort.")
   unbound_id_text : {id : GlobalId} →
       IsCauseText (unbound (global id)) (id_text id ++ codes " is unbound.")
   unbound_variable_text : {k : ℕ} →

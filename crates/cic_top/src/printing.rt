@@ -1,10 +1,10 @@
-ghost use Rattle.std.specs.Prelude.{◌≡◌, ◌++◌, IfOk, OnOk, Ok, string_bytes, decimal, codes};
+ghost use Rattle.std.specs.Prelude.{◌≡◌, ◌++◌, [], IfOk, OnOk, Ok, string_bytes, decimal, codes};
 ghost use Rattle.cic_names.specs.Texts.{id_text};
 ghost use Rattle.cic_env.specs.Items.{as_item};
 ghost use Rattle.cic_env.specs.Environments.{items};
 ghost use Rattle.cic_rules.specs.Environment.{axiom_of, declared};
 ghost use Rattle.cic_terms.specs.Denotes.{tree};
-ghost use Rattle.gal_print.specs.Printing.{HasText, Prints};
+ghost use Rattle.gal_print.specs.Printing.{term_text};
 ghost use Rattle.gal_print.specs.Appending.{Appends};
 ghost use Rattle.cic_counted.specs.Outcome.{unbound};
 ghost use Rattle.cic_work.specs.Verdicts.{cause_of, missing_of};
@@ -22,13 +22,12 @@ use memory::NoMemory;
 use std::alloc::Global;
 use std::collections::BTreeMap;
 
-/// A closed term, printed.
-fn printed_term(alloc: Global, t: &Term) -> Result<String, NoMemory>
-    requires { HasText (tree t.now) }
-    ensures { IfOk result (λ text. Prints 0 (tree t.now) (string_bytes text)) }
+/// A closed term, printed over the environment.
+fn printed_term(alloc: Global, env: &Env, t: &Term) -> Result<String, NoMemory>
+    ensures { IfOk result (λ text. string_bytes text ≡ term_text (items env.now) 0 (tree t.now)) }
 {
     let mut text = String::new(alloc);
-    print_term(&mut text, 0, t)?;
+    print_term(&mut text, env, 0, t)?;
     Ok(text)
 }
 
@@ -52,7 +51,7 @@ fn sorted_axioms(alloc: Global, env: &Env) -> Result<BTreeMap<String, String>, N
     for item in env.items() {
         let (id, ty) = axiom_parts(item);
         let id = id.to_string(alloc)?;
-        let ty = printed_term(alloc, ty)?;
+        let ty = printed_term(alloc, env, ty)?;
         sorted.insert(id, ty)?;
     }
     Ok(sorted)
@@ -107,10 +106,18 @@ fn push_unbound(text: &mut String, what: &Missing) -> Result<(), NoMemory>
         Missing::Global(id) => push_unbound_id(text, id),
         Missing::Local(k) => {
             push_part(text, "variable ")?;
-            push_number(text, *k)?;
+            push_number(text, u64::from(*k))?;
             push_part(text, " is unbound.")
         }
     }
+}
+
+/// Adds a term of the language, which has no match: nothing that is declared shows in its text.
+fn push_form(text: &mut String, depth: u32, form: &Term) -> Result<(), NoMemory>
+    ensures { OnOk result (string_bytes text.new ≡ string_bytes text.old ++ term_text [] depth (tree form.now)) }
+{
+    let nothing = Env::new(*text.allocator());
+    print_term(text, &nothing, depth, form)
 }
 
 /// Adds why a declaration of the language is ill formed.
@@ -120,7 +127,7 @@ fn push_cause(text: &mut String, cause: &Cause) -> Result<(), NoMemory>
 {
     match cause {
         Cause::NotSort { depth, form } => {
-            print_term(text, *depth, form)?;
+            push_form(text, *depth, form)?;
             push_part(text, " is not a sort.")
         }
         Cause::Unbound { what } => push_unbound(text, what),

@@ -16,9 +16,9 @@ abbrev pub IsAxiom : Item → Type 0
 IsAxiom (declared (axiom_of id type)) = Unit {0}
 IsAxiom item = ⊥
 
--- The environment has axioms alone, whose types are printed.
+-- The environment has axioms alone.
 abbrev pub HasAxiomLines : Environment → Type 0
-HasAxiomLines E = (lines : List AxiomLine) × AxiomLines E lines
+HasAxiomLines E = (lines : List AxiomLine) × AxiomLines E E lines
 
 -- The refusal has a line.
 abbrev pub HasLine : Refusal → Type 0
@@ -34,5 +34,5 @@ lines_of entries = map line_of entries
 -- The lines are those of the axioms, sorted by printed id.
 pub record AreSortedAxioms (E : Environment) (sorted : List AxiomLine) : Type 0 where
   pub lines : List AxiomLine
-  pub each : AxiomLines E lines
+  pub each : AxiomLines E E lines
   pub order : sorted ≡ insert_lines [] lines

@@ -8,9 +8,8 @@ use Rattle.cic_names.specs.declared.name.GlobalId.{GlobalId}
 use Rattle.gal_elab.specs.Scoping.{Declares}
 use Rattle.gal_parser.specs.Grammar.{Sentence}
 use Rattle.gal_parser.specs.Views.{raw_term}
-use Rattle.gal_print.proofs.Printed.{where_true, where_false}
 use Rattle.cic_top.specs.calls.Compiling.{DeclaresOrRefuses, AddsOrRefuses}
-use Rattle.cic_top.proofs.Sentences.{adds_or_refuses, duplicate_refuses, unknown_refuses}
+use Rattle.cic_top.proofs.Sentences.{adds_or_refuses, duplicate_refuses, unknown_refuses, where_true, where_false}
 use Rattle.cic_top.proofs.compiling.run_sentence.Goals as goal
 
 pub returns-then-declares : goal.returns-then-declares
