@@ -1,5 +1,5 @@
 //! Lists of the parts of a term, made from the front.
-ghost use Rattle.std.specs.Prelude.{◌≡◌, OnOk, map};
+ghost use Rattle.std.specs.Prelude.{◌≡◌, [], OnOk, map};
 ghost use Rattle.std.specs.Option.{option_map};
 ghost use Rattle.gal_grammar.specs.Terms as S;
 ghost use Rattle.gal_raw.specs.Denotes.{tree, identifier, qualified, binder, application, applied, groups, functions, branches};
@@ -70,6 +70,16 @@ impl<'a> Groups<'a> {
     }
 }
 
+/// An empty list with room for one element, if there is memory: most lists of functions have one.
+fn with_room<T>(alloc: Global) -> Vec<T>
+    ensures { result.items ≡ [] }
+{
+    match Vec::with_capacity(alloc, 1) {
+        Ok(items) => items,
+        Err(_) => Vec::new(alloc),
+    }
+}
+
 impl<'a> Functions<'a> {
     /// No functions.
     #[tactic(auto, using(crate::proofs::Rows::functions_roll))]
@@ -77,7 +87,7 @@ impl<'a> Functions<'a> {
         ensures { functions result ≡ S.no_functions }
     {
         Functions {
-            items: Vec::new(alloc),
+            items: with_room(alloc),
         }
     }
 
