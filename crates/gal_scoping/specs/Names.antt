@@ -1,9 +1,10 @@
 -- What a name stands for (Coq Reference Manual, "Libraries and qualified names"): it is sought among the binders
 -- around it, then among the library's own names, then among those that imports bring.
-use Rattle.std.specs.Prelude.{ℕ, zero, suc, List, [], ◌∷◌, Option, Some, None, option_map, filter, find, Bool, not, if◌then◌else◌, nat_eq, Ok, Err}
+use Rattle.std.specs.Prelude.{ℕ, zero, suc, List, [], ◌∷◌, Option, Some, None, option_map, filter, find, length, Bool, not, ◌&&◌, if◌then◌else◌, nat_eq, leb, Ok, Err}
 use Rattle.std.specs.List.{list_any}
 use Rattle.cic_names.specs.declared.name.GlobalId.{GlobalId}
 use Rattle.cic_names.specs.Sameness.{same_name, same_id}
+use Rattle.cic_names.specs.Identifier.{is_identifier}
 use Rattle.cic_terms.specs.Tree.{Tree, rel, const, ind, ctor}
 use Rattle.cic_rules.specs.Environment.{Environment, Meaning, constant, whole_type, bare_type, constructor, meaning}
 use Rattle.gal_grammar.specs.Terms.{Qual, short, long, Binder, bound, blank, Named, named}
@@ -67,11 +68,15 @@ qualified_id scope _ = None
 abbrev pub has_own : List (List ℕ) → List ℕ → Bool
 has_own own name = list_any (same_name name) own
 
--- What may be written for the id: a live name of the library itself, or a name of an allowed library.
+-- A name: an identifier of at most 255 bytes.
+abbrev pub is_name : List ℕ → Bool
+is_name text = is_identifier text && leb (length text) 255
+
+-- What may be written for the id: a live name of the library itself, or a name in an allowed library.
 abbrev pub may_be_written : Scope → GlobalId → Bool
 may_be_written scope id =
     if same_name scope.library id.lib then has_own scope.own id.name
-    else list_any (λ a. same_name id.lib a.library) scope.allowed
+    else (is_name id.name && list_any (λ a. same_name id.lib a.library) scope.allowed)
 
 abbrev pub qualified : Scope → (name : List ℕ) → Option GlobalId → Reading GlobalId
 qualified scope name None = Err (unknown name)

@@ -20,6 +20,7 @@ pub fn names_are_sought_in_order()
 {}
 
 /// `B.y` may be written as B is required, with the prefix too; C is imported through another library alone.
+#[tactic(auto, using(crate::proofs::Words::x_is_name, crate::proofs::Words::y_is_name))]
 pub fn qualified_names()
     ensures library { term place owner [] 0 (ref (dotted (codes "B.y"))) ≡ Ok (T.const (id (codes "B") (codes "y"))) }
     ensures prefixed { term place owner [] 0 (ref (dotted (codes "P.B.x"))) ≡ Ok (T.const (id (codes "B") (codes "x"))) }

@@ -1,5 +1,5 @@
 -- Scopes that answer alike mean the same by each name, and stay alike where more is brought or allowed.
-use Rattle.std.proofs.Common.{◌≡◌, ℕ, Bool, true, false, cond, ◌||◌, List, [], ◌∷◌, ◌++◌, refl, sym, ap, ◌∙◌, if◌then◌else◌, append-nil}
+use Rattle.std.proofs.Common.{◌≡◌, ◌&&◌, ℕ, Bool, true, false, cond, ◌||◌, List, [], ◌∷◌, ◌++◌, refl, sym, ap, ◌∙◌, if◌then◌else◌, append-nil}
 use Rattle.std.specs.Prelude.{Option, Some, None, Ok, Err, not, filter, find}
 use Rattle.std.proofs.lemmas.List.Elements.{filter-append}
 use Rattle.cic_names.specs.declared.name.GlobalId.{GlobalId}
@@ -7,7 +7,7 @@ use Rattle.cic_names.specs.Sameness.{same_name, same_id}
 use Rattle.gal_grammar.specs.Terms.{Qual, short, long}
 use Rattle.gal_scoping.specs.Scopes.{Scope, Allowed}
 use Rattle.gal_scoping.specs.Readings.{Reading, unknown, ambiguous, bad_pattern, with_part}
-use Rattle.gal_scoping.specs.Names.{has_own, has_name, imported, one_of, named_id, qualified_id, qualified, words_of, global_id}
+use Rattle.gal_scoping.specs.Names.{has_own, has_name, imported, one_of, named_id, qualified_id, qualified, words_of, global_id, is_name}
 use Rattle.gal_scoping.specs.Levels.{qualified_level, level_id, level_named, declared_level}
 use Rattle.name_scope.specs.Agreement.{Agrees}
 use Rattle.name_scope.specs.calls.Changes.{Brings, imported_of, is_allowed, is_declared, with_allowed, Allows}
@@ -97,9 +97,9 @@ module _ (all kept : Scope) (alike : Agrees all kept) where
   qualified_alike : (written : List ℕ) (o : Option GlobalId) → qualified kept written o ≡ qualified all written o
   qualified_alike written None = refl
   qualified_alike written (Some id) =
-      ap (λ l. if (if same_name l id.lib then has_own kept.own id.name else is_allowed kept.allowed id.lib) then Ok id else Err (unknown written)) alike.library
-      ∙ ap (λ b. if (if same_name all.library id.lib then b else is_allowed kept.allowed id.lib) then Ok id else Err (unknown written)) (alike.own id.name)
-      ∙ ap (λ b. if (if same_name all.library id.lib then has_own all.own id.name else b) then Ok id else Err (unknown written)) (alike.libraries id.lib)
+      ap (λ l. if (if same_name l id.lib then has_own kept.own id.name else (is_name id.name && is_allowed kept.allowed id.lib)) then Ok id else Err (unknown written)) alike.library
+      ∙ ap (λ b. if (if same_name all.library id.lib then b else (is_name id.name && is_allowed kept.allowed id.lib)) then Ok id else Err (unknown written)) (alike.own id.name)
+      ∙ ap (λ b. if (if same_name all.library id.lib then has_own all.own id.name else (is_name id.name && b)) then Ok id else Err (unknown written)) (alike.libraries id.lib)
 
   levels_alike : (written : List ℕ) (o : Option GlobalId) → qualified_level kept written o ≡ qualified_level all written o
   levels_alike written None = refl

@@ -2,9 +2,12 @@
 use Rattle.std.proofs.Common.{◌≡◌, ℕ, Bool, true, false, ◌||◌, ◌&&◌, List, [], ◌∷◌, ◌++◌, refl, sym, ap, subst, ◌∙◌, if◌then◌else◌, true≢false}
 use Rattle.std.specs.Prelude.{Result, Ok, Err, OnOk, OnErr}
 use Rattle.std.specs.List.{list_any}
+use Rattle.std.specs.Prelude.{leb, length, ◌<◌, ◌≤◌}
+use Rattle.std.proofs.lemmas.Bool.{le-leb, lt-leb}
+use Rattle.cic_names.specs.Identifier.{is_identifier, IsIdentifier}
 use Rattle.cic_names.specs.Sameness.{same_name}
 use Rattle.cic_names.proofs.Equality.{same_name_decides}
-use Rattle.gal_scoping.specs.Names.{has_own}
+use Rattle.gal_scoping.specs.Names.{has_own, is_name}
 use Rattle.name_scope.specs.calls.Changes.{Joins, with_name, with_names}
 
 pub name_is : (a b : List ℕ) → same_name a b ≡ true → a ≡ b
@@ -89,3 +92,17 @@ on_ok (Err e) f h = tt
 pub on_err : {T E : Type 0} {P Q : Type 0} (r : Result T E) → (P → Q) → OnErr r P → OnErr r Q
 on_err (Ok x) f h = tt
 on_err (Err e) f h = f h
+
+-- Which bytes are a name.
+and_false : (b : Bool) → (b && false) ≡ false
+and_false true = refl
+and_false false = refl
+
+pub name_holds : (text : List ℕ) → IsIdentifier text → length text ≤ 255 → is_name text ≡ true
+name_holds text i short = ap (λ b. b && leb (length text) 255) i ∙ le-leb (length text) 255 short
+
+pub no_identifier : (text : List ℕ) → (IsIdentifier text → ⊥) → is_name text ≡ false
+no_identifier text other = ap (λ b. b && leb (length text) 255) (differs (is_identifier text) other)
+
+pub long_name : (text : List ℕ) → 255 < length text → is_name text ≡ false
+long_name text long = ap (λ b. is_identifier text && b) (lt-leb (length text) 255 long) ∙ and_false (is_identifier text)

@@ -1,4 +1,3 @@
 -- Words that state contracts of calls.
 pub mod Changes
-pub mod Readable
 pub mod Answers

@@ -1,11 +1,10 @@
 //! Look-ups of the names of libraries.
-ghost use Rattle.std.specs.Prelude.{◌≡◌, Ok, Err, IfOk};
+ghost use Rattle.std.specs.Prelude.{◌≡◌, Ok, Err, IfOk, OnOk, true, false};
 ghost use Rattle.memory.specs.Telling.{Tells, IfReason};
 ghost use Rattle.gal_scoping.specs.Readings.{unknown};
-ghost use Rattle.gal_scoping.specs.Names.{named_id};
+ghost use Rattle.gal_scoping.specs.Names.{named_id, is_name};
 ghost use Rattle.name_scope.specs.Faults.{fault};
 ghost use Rattle.name_scope.specs.Answering.{own_reading};
-ghost use Rattle.name_scope.specs.calls.Readable.{IsName};
 
 use crate::fault::NameFault;
 use crate::imports::Imports;
@@ -53,6 +52,7 @@ pub(crate) fn own_id<'a>(
 }
 
 /// The id of these bytes in a library, if they are a name.
+#[tactic(auto, using(crate::proofs::NameLaws::name_holds, crate::proofs::NameLaws::no_identifier, crate::proofs::NameLaws::long_name))]
 pub(crate) fn foreign<'a>(
     alloc: Global,
     library: &LibName,
@@ -60,7 +60,8 @@ pub(crate) fn foreign<'a>(
     written: &'a [u8],
 ) -> Result<GlobalId, NameFault<'a>>
     ensures found { IfOk result (λ id. id ≡ record { lib = library.now; name = name.now }) }
-    ensures fault { IfReason fault result (λ f. (f ≡ unknown written.now) × ¬ IsName name.now) }
+    ensures name { OnOk result (is_name name.now ≡ true) }
+    ensures fault { IfReason fault result (λ f. (f ≡ unknown written.now) × (is_name name.now ≡ false)) }
 {
     match Name::new(alloc, name) {
         Ok(name) => Ok(joined(library, &name)?),

@@ -53,7 +53,6 @@ impl Scope {
     ghost use Rattle.name_scope.specs.Held.{scope_of, variables_of, taken_of, empty_scope};
     ghost use Rattle.name_scope.specs.calls.Changes.{Joins, Leaves, Brings, Allows, Takes};
     ghost use Rattle.name_scope.specs.Parts.{id_written};
-    ghost use Rattle.name_scope.specs.calls.Readable.{IsFaultOf};
     ghost use Rattle.name_scope.specs.calls.Answers.{IsSame};
 
     /// The scope of a library of which nothing is known yet. The prefix may be written before the names of libraries.
@@ -149,7 +148,7 @@ impl Scope {
         written: &'a [u8],
     ) -> Result<GlobalId, NameFault<'a>>
         ensures found { IfOk result (λ id. qualified (scope_of self.now) written.now (Some (id_written parts.entry)) ≡ Ok id) }
-        ensures fault { IfReason fault result (IsFaultOf written.now (qualified (scope_of self.now) written.now (Some (id_written parts.entry)))) }
+        ensures fault { IfReason fault result (λ f. qualified (scope_of self.now) written.now (Some (id_written parts.entry)) ≡ Err f) }
     {
         if self.library.bytes() == parts.library {
             return own_id(&self.library, &self.own, parts.name, written);
@@ -196,7 +195,7 @@ impl Scope {
     /// The id that a name stands for where no binder has it.
     pub fn global<'a>(&self, x: &QualifiedName<'a>) -> Result<GlobalId, NameFault<'a>>
         ensures found { IfOk result (λ id. global_id (scope_of self.now) (denoted x.now) ≡ Ok id) }
-        ensures fault { IfReason fault result (IsFaultOf (written (denoted x.now)) (global_id (scope_of self.now) (denoted x.now))) }
+        ensures fault { IfReason fault result (λ f. global_id (scope_of self.now) (denoted x.now) ≡ Err f) }
     {
         match x {
             QualifiedName::Short(x) => short(&self.library, &self.own, &self.brought, x.text),
