@@ -1,12 +1,12 @@
 -- The recursive places of functions, and the fix of functions within the limits.
-use Rattle.std.proofs.Common.{◌≡◌, ℕ, zero, suc, ◌+◌, ◌-◌, ◌<◌, ◌≤◌, max, List, [], ◌∷◌, map, length, Bool, true, false, refl, sym, ap, subst, ◌∙◌, ◌⊎◌, inl, inr, arith}
+use Rattle.std.proofs.Common.{◌≡◌, ℕ, suc, ◌+◌, ◌-◌, ◌<◌, List, [], ◌∷◌, map, length, Bool, true, false, refl, sym, ap, ◌∙◌, arith}
 use Rattle.std.specs.Prelude.{Option, Some, None, is_none, is_some, not, nat_eq, if◌then◌else◌}
 use Rattle.std.specs.Option.{option_map, option_and_then}
 use Rattle.std.proofs.lemmas.Grind.{common_steps}
 use Rattle.std.proofs.lemmas.Bool.Decides.{nat_tests}
 use Rattle.cic_terms.specs.Tree.{Tree, Children, no_child, child, join}
 use Rattle.cic_terms.specs.Tree as T
-use Rattle.cic_terms.specs.Denotes.{tree, shapes, shape_list, bodies, body_list}
+use Rattle.cic_terms.specs.Denotes.{shapes, shape_list, bodies, body_list}
 use Rattle.cic_terms.specs.Sizes.{Fits, ChildrenFit}
 use Rattle.cic_terms.specs.declared.term.FixBody.{FixBody}
 use Rattle.cic_terms.specs.declared.term.FixBodies.{FixBodies}
@@ -22,7 +22,7 @@ use Rattle.elab_parts.specs.calls.Parts.{cut}
 use Rattle.elab_parts.specs.calls.Bindings.{KnownBinding, cut_binding}
 use Rattle.elab_parts.specs.calls.Functions.{KnownFunction, cut_function, whole_bindings, whole_function, whole_functions, known_fix}
 use Rattle.elab_parts.specs.calls.Places.{known_is_type, first_known, guarded_if, place_if, known_place, placed}
-use Rattle.elab_parts.proofs.Cuts.{cut_is, cut_fits, cut_unfit}
+use Rattle.elab_parts.proofs.Cuts.{cut_fits}
 use Rattle.elab_parts.proofs.Functioning.{functions_read, fixpoint_of}
 
 -- the guard of a single function
@@ -176,7 +176,7 @@ parts_any p n [] = refl
 parts_any p n (f ∷ fs) =
     ap (λ r. join (domain_parts 0 (domains f.bindings)) (child (T.many (length (domains f.bindings))) f.codomain (child (T.many (n + length (domains f.bindings))) f.body r))) (parts_any p n fs)
 
-with_parts_any : (E : Environment) (n : ℕ) (fs : List ReadFunction) → function_parts n (with_places E fs) ≡ function_parts n (map (λ f. recursive_at f 0) fs)
+pub with_parts_any : (E : Environment) (n : ℕ) (fs : List ReadFunction) → function_parts n (with_places E fs) ≡ function_parts n (map (λ f. recursive_at f 0) fs)
 with_parts_any E n [] = refl
 with_parts_any E n (f ∷ []) = refl
 with_parts_any E n (f ∷ f' ∷ fs) = parts_any (λ f. place_by_type f f.struct) n (f ∷ f' ∷ fs)
@@ -192,7 +192,7 @@ binders_fit above [] f = refl
 binders_fit above (b ∷ bs) f =
     let e = cut_fits b.type (head_fits _ b.type _ f) in let e' = binders_fit (above + 1) bs (tail_fits _ b.type _ f) in rw (e, e') refl
 
-functions_fit : (n : ℕ) (fs : List ReadFunction) → ChildrenFit 4000 (function_parts n (map (λ f. recursive_at f 0) fs)) → whole_functions (map cut_function fs) ≡ Some fs
+pub functions_fit : (n : ℕ) (fs : List ReadFunction) → ChildrenFit 4000 (function_parts n (map (λ f. recursive_at f 0) fs)) → whole_functions (map cut_function fs) ≡ Some fs
 functions_fit n [] h = refl
 functions_fit n (f ∷ fs) h =
     let p = join_fits 4000 (domain_parts 0 (domains f.bindings)) _ h in
@@ -202,4 +202,3 @@ functions_fit n (f ∷ fs) h =
     let e'' = cut_fits f.body (head_fits _ f.body _ q) in
     let r = functions_fit n fs (tail_fits _ f.body _ q) in
     rw (e, e', e'', r) refl
-

@@ -1,8 +1,8 @@
 -- Names in a row, and the fix of functions that are read.
-use Rattle.std.proofs.Common.{◌≡◌, ℕ, zero, suc, ◌+◌, ◌<◌, ◌≤◌, List, [], ◌∷◌, ◌++◌, map, reverse, length, take, drop, get_or, max, Bool, true, false, refl, sym, ap, subst, ◌∙◌, append_assoc, length-append, arith}
+use Rattle.std.proofs.Common.{◌≡◌, ℕ, zero, suc, ◌+◌, ◌<◌, List, [], ◌∷◌, ◌++◌, map, length, take, get_or, max, Bool, true, false, refl, sym, ap, ◌∙◌, append_assoc, arith}
 use Rattle.std.specs.Prelude.{Option, Some, None, if◌then◌else◌}
 use Rattle.std.specs.Option.{option_map}
-use Rattle.std.proofs.lemmas.List.{reverse-append, map-append, take-map, get_or-map, length-map}
+use Rattle.std.proofs.lemmas.List.{map-append, length-map}
 use Rattle.std.proofs.lemmas.Grind.{common_steps}
 use Rattle.std.specs.Option.{option_and_then}
 use Rattle.cic_terms.specs.Tree.{Tree, Shape, Children, no_child, child, many, join, fix}
@@ -114,7 +114,7 @@ pub domains_more : (made made' : List Tree) (b : KnownBinding) (t : Tree) (ks re
     option_map (λ r. made' ++ r) (option_map domains (whole_bindings rest)) ≡ whole
 domains_more made made' b t ks rest whole at is more h =
     rw more (domains_step made b t (whole_bindings rest) ∙ sym (ap (λ o. option_map (λ r. made ++ r) (option_map domains (option_and_then (λ t. option_map (λ rest. record { name = b.name; type = t } ∷ rest) (whole_bindings rest)) o))) is)
-      ∙ ap (λ ys. option_map (λ r. made ++ r) (option_map domains (whole_bindings ys))) (sym at) ∙ h)
+    ∙ ap (λ ys. option_map (λ r. made ++ r) (option_map domains (whole_bindings ys))) (sym at) ∙ h)
   where
     domains_step : (made : List Tree) (b : KnownBinding) (t : Tree) (o : Option (List Binding)) →
         option_map (λ r. (made ++ t ∷ []) ++ r) (option_map domains o) ≡ option_map (λ r. made ++ r) (option_map domains (option_map (λ rest. record { name = b.name; type = t } ∷ rest) o))

@@ -5,3 +5,4 @@ pub mod Named
 pub mod Functioning
 pub mod Fixing
 pub mod Whole
+pub mod Stated

@@ -1,6 +1,6 @@
 -- Names that stand for nothing, or for something declared.
 use Rattle.std.proofs.Common.{◌≡◌, ap, ◌∙◌}
-use Rattle.std.specs.Prelude.{Option, Some, None, Ok, Err}
+use Rattle.std.specs.Prelude.{Option, None, Ok}
 use Rattle.cic_names.specs.declared.name.GlobalId.{GlobalId}
 use Rattle.cic_rules.specs.Environment.{Meaning, meaning}
 use Rattle.gal_grammar.specs.Terms.{Qual}

@@ -69,12 +69,7 @@ fn body_of(k: u32, domains: Vec<Term>, codomain: Term, body: Term) -> FixBody
 
 /// The function of parts within the limits.
 #[tactic(auto, using(crate::proofs::Functioning::body_depth, crate::proofs::Functioning::body_rels, crate::proofs::Functioning::body_made))]
-fn body_within(
-    domains: Domains,
-    k: u32,
-    codomain: &Part,
-    body: &Part,
-) -> Result<Body, NoMemory>
+fn body_within(domains: Domains, k: u32, codomain: &Part, body: &Part) -> Result<Body, NoMemory>
     ensures { IfOk result (λ made. function_of made.body ≡ record { recursive_place = k; domains = map tree domains.terms.items; codomain = tree codomain.now.term.value; body = tree body.now.term.value }) }
 {
     let depth = domains.depth.max(codomain.depth).max(body.depth);
@@ -143,11 +138,7 @@ fn guarded_at(
 }
 
 /// The first recursive binder with which the guard passes, or else the first. Binders are fewer than 2^32.
-fn place_by_guard(
-    alloc: Global,
-    env: &Env,
-    function: &ReadFunction<'_>,
-) -> Result<u32, NoMemory>
+fn place_by_guard(alloc: Global, env: &Env, function: &ReadFunction<'_>) -> Result<u32, NoMemory>
     ensures { IfOk result (λ place. place ≡ first_where (λ k. guarded_if (items env.now) k (whole_function (known_function function.now))) 0 (length function.now.binders.items)) }
 {
     let Ok(count) = u32::try_from(function.binders.len()) else {

@@ -35,11 +35,7 @@ fn at_level(alloc: Global, level: Level) -> Result<Part, NoMemory>
 }
 
 /// `Type` at the anonymous level of this number.
-pub fn anonymous_level(
-    alloc: Global,
-    place: &Place<'_>,
-    number: u32,
-) -> Result<Part, NoMemory>
+pub fn anonymous_level(alloc: Global, place: &Place<'_>, number: u32) -> Result<Part, NoMemory>
     ensures { IfOk result (λ p. tree p.term.value ≡ at_level (anonymous (place_of place.now).scope.library (owner_of place.now) number)) }
 {
     let part = if place.opaque {

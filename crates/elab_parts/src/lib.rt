@@ -4,9 +4,11 @@
 
 mod around;
 mod binding;
+mod constraints;
 mod fault;
 mod fixes;
 mod functions;
+pub mod laws;
 mod levels;
 mod making;
 mod names;
@@ -18,6 +20,7 @@ mod telescopes;
 
 pub use around::{Around, has_name};
 pub use binding::Binding;
+pub use constraints::read_constraints;
 pub use fault::ScopingFault;
 pub use fixes::fix_term;
 pub use functions::ReadFunction;

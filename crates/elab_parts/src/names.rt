@@ -17,10 +17,7 @@ use memory::NoMemory;
 use std::alloc::Global;
 
 /// Puts binders of these names, the first outermost, inside all others.
-pub fn enter_all<'a>(
-    around: &mut Around<'a>,
-    names: &[Option<&'a [u8]>],
-) -> Result<(), NoMemory>
+pub fn enter_all<'a>(around: &mut Around<'a>, names: &[Option<&'a [u8]>]) -> Result<(), NoMemory>
     ensures { OnOk result (around_of around.new ≡ reverse (map option_copied names.now) ++ around_of around.old) }
 {
     for name in names {
@@ -57,10 +54,7 @@ pub fn last_named(names: &[Option<&[u8]>], name: &[u8]) -> Option<usize>
 }
 
 /// The last place of a name that is written. Places are fewer than 2^32.
-fn named_place<'a>(
-    names: &[Option<&[u8]>],
-    name: &Identifier<'a>,
-) -> Result<u32, ScopingFault<'a>>
+fn named_place<'a>(names: &[Option<&[u8]>], name: &Identifier<'a>) -> Result<u32, ScopingFault<'a>>
     ensures { Reads (λ place. place) (place_or_unknown (text_of (identifier name.now)) (last_place (text_of (identifier name.now)) (map option_copied names.now))) result }
 {
     let Some(place) = last_named(names, name.text) else {

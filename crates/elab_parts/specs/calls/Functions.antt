@@ -1,5 +1,5 @@
 -- Functions of a fix that are read, as far as their parts are within the limits.
-use Rattle.std.specs.Prelude.{ℕ, List, [], ◌∷◌, map, Option, Some, None, option_map}
+use Rattle.std.specs.Prelude.{ℕ, List, [], ◌∷◌, map, Option, Some, option_map}
 use Rattle.std.specs.Option.{option_and_then}
 use Rattle.cic_terms.specs.Tree.{Tree}
 use Rattle.cic_rules.specs.Environment.{Environment}
@@ -29,7 +29,7 @@ whole_bindings (b ∷ bs) =
 abbrev pub whole_function : KnownFunction → Option Read
 whole_function f =
     option_and_then (λ bs. option_and_then (λ a. option_map (λ t. record { struct = f.struct; bindings = bs; codomain = a; body = t }) f.body) f.codomain)
-      (whole_bindings f.bindings)
+    (whole_bindings f.bindings)
 
 abbrev pub whole_functions : List KnownFunction → Option (List Read)
 whole_functions [] = Some []

@@ -1,5 +1,5 @@
 -- The recursive places of functions.
-use Rattle.std.specs.Prelude.{ℕ, ◌+◌, ◌∷◌, [], List, map, length, Option, Some, None, Bool, true, false, nat_eq, if◌then◌else◌}
+use Rattle.std.specs.Prelude.{ℕ, ◌+◌, ◌∷◌, [], List, length, Option, Some, None, Bool, false, if◌then◌else◌}
 use Rattle.std.specs.Option.{option_map, option_and_then}
 use Rattle.cic_terms.specs.Tree.{Tree}
 use Rattle.cic_rules.specs.Environment.{Environment}

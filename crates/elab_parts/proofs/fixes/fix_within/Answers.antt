@@ -1,5 +1,5 @@
-use Rattle.std.proofs.Common.{sym, ap, ◌∙◌, ◌<◌, ◌≡◌, ◌≤◌, max, length, arith}
-use Rattle.cic_terms.specs.Tree.{Tree, fix}
+use Rattle.std.proofs.Common.{sym, ap, ◌∙◌, max, length, arith}
+use Rattle.cic_terms.specs.Tree.{fix}
 use Rattle.cic_terms.specs.Denotes.{shape_list, body_list}
 use Rattle.cic_terms.specs.Sizes.{depth_tree, max_rel}
 use Rattle.elab_parts.proofs.Cuts.{cut_deep, room_left, no_room_left}

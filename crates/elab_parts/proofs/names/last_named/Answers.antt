@@ -8,6 +8,7 @@ use Rattle.elab_parts.proofs.names.last_named.Goals.{then-has_name, else-has_nam
 pub loop-place-preserved : goal.loop-place-preserved
 loop-place-preserved c =
     elim c.if-has_name.branch [
-      then-has_name w ↦ w.found-is ∙ sym (last_found option_copied c.args.name.now c.args.names.now c.loop-place.place None c.loop-place-test.true (sym c.has_name.ensures ∙ w.if-has_name.true))
-    | else-has_name w ↦ w.found-is ∙ c.loop-place.invariant
-        ∙ sym (last_passed option_copied c.args.name.now c.args.names.now c.loop-place.place None c.loop-place-test.true (sym c.has_name.ensures ∙ w.if-has_name.false)) ]
+      | then-has_name w ↦ w.found-is ∙ sym (last_found option_copied c.args.name.now c.args.names.now c.loop-place.place None c.loop-place-test.true (sym c.has_name.ensures ∙ w.if-has_name.true))
+      | else-has_name w ↦ w.found-is ∙ c.loop-place.invariant
+          ∙ sym (last_passed option_copied c.args.name.now c.args.names.now c.loop-place.place None c.loop-place-test.true (sym c.has_name.ensures ∙ w.if-has_name.false))
+    ]
