@@ -1,0 +1,4 @@
+-- Words that state contracts of calls.
+pub mod Names
+pub mod Layers
+pub mod Stored

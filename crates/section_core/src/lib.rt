@@ -1,0 +1,14 @@
+//! Sections: hypotheses, declarations that use them, and what is kept of these when a section ends. Coq Reference
+//! Manual, "Section mechanism".
+#![tactic(auto)]
+
+mod copying;
+mod entry;
+mod fault;
+mod keeping;
+mod naming;
+mod uses;
+mod using;
+
+pub use fault::{AddFault, LeaveFault};
+pub use using::Using;
