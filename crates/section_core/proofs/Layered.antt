@@ -1,6 +1,6 @@
 -- One list that is kept for several ids.
-use Rattle.std.proofs.Common.{◌≡◌, ℕ, ◌<◌, Bool, true, false, ◌||◌, if◌then◌else◌, Option, Some, List, Vec, [], ◌∷◌, ◌++◌, length, reverse, refl, sym, ap, subst, ◌∙◌, arith}
-use Rattle.std.proofs.lemmas.List.{reverse-append, length-reverse}
+use Rattle.std.proofs.Common.{◌≡◌, ℕ, ◌<◌, Bool, true, false, ◌||◌, if◌then◌else◌, Option, Some, List, Vec, [], ◌∷◌, ◌++◌, length, reverse, refl, sym, ap, ap₂, subst, ◌∙◌, arith}
+use Rattle.std.proofs.lemmas.List.{reverse-append, reverse-reverse, length-reverse}
 use Rattle.std.specs.Map.{lookup}
 use Rattle.std.specs.declared.rc.Rc.{Rc}
 use Rattle.std.specs.declared.alloc.Global.{Global}
@@ -8,9 +8,10 @@ use Rattle.indexmap.specs.IndexMap.{insert_entry}
 use Rattle.cic_names.specs.declared.name.GlobalId.{GlobalId}
 use Rattle.cic_names.specs.Sameness.{same_id}
 use Rattle.section_terms.specs.Used.{is_in}
-use Rattle.section_uses.specs.Kept.{Layer, layered, names_or}
+use Rattle.section_uses.specs.Kept.{Layer, layered, all_layered, names_or, layers_of, list_of}
+use Rattle.section_uses.specs.declared.lists.Lists.{Lists}
 use Rattle.section_uses.specs.calls.Layers.{PutsLast}
-use Rattle.section_uses.proofs.Inserted.{lookup_inserted}
+use Rattle.section_uses.proofs.Inserted.{lookup_inserted, layer_more, nothing_below}
 use Rattle.section_uses.proofs.Membership.{in_both}
 use Rattle.section_core.specs.Sections.{giving}
 use Rattle.section_core.specs.calls.Layers.{PutsAll}
@@ -77,3 +78,34 @@ puts_none names ls h =
 pub still_some : (ids names : List GlobalId) (old new : List Layer) → PutsAll ids names old new → 0 < length new
 still_some ids names old new p =
     let e : length (reverse new) ≡ length (p.changed ∷ p.earlier) = ap length p.is in omega (arith, e, length-reverse new)
+
+-- Functions that give the same everywhere are the same.
+pub same_everywhere : {A B : Type 0} (f g : A → B) → ((x : A) → f x ≡ g x) → f ≡ g
+same_everywhere f g h = λ j x. h x j
+
+-- What layers give, by the last
+pub last_given : (ls : List Layer) (l : Layer) (earlier : List Layer) → reverse ls ≡ l ∷ earlier →
+    all_layered nothing_below ls ≡ layered (all_layered nothing_below (reverse earlier)) l
+last_given ls l earlier e =
+    ap (all_layered nothing_below) (sym (reverse-reverse ls) ∙ ap reverse e ∙ reverse-append (l ∷ []) earlier)
+    ∙ layer_more nothing_below (reverse earlier) l
+
+pub lists_given : (ids names : List GlobalId) (old new : Lists) → PutsAll ids names (layers_of old) (layers_of new) → list_of new ≡ giving ids names (list_of old)
+lists_given ids names old new p =
+    same_everywhere (list_of new) (giving ids names (list_of old)) (λ c.
+        ap (λ (f : GlobalId → List GlobalId). f c) (last_given (layers_of new) p.changed p.earlier p.is)
+        ∙ p.gives (all_layered nothing_below (reverse p.earlier)) c
+        ∙ ap (λ (f : GlobalId → List GlobalId). giving ids names f c) (sym (last_given (layers_of old) p.last p.earlier p.was)))
+
+-- A new layer gives nothing.
+pub first_layer : (fresh lists : Lists) → layers_of fresh ≡ [] → layers_of lists ≡ layers_of fresh ++ [] ∷ [] → list_of lists ≡ (λ c. [])
+first_layer fresh lists e f = ap (all_layered nothing_below) (f ∙ ap (λ (ls : List Layer). ls ++ [] ∷ []) e)
+
+pub first_layer_is : (fresh lists : Lists) → layers_of fresh ≡ [] → layers_of lists ≡ layers_of fresh ++ [] ∷ [] → 0 < length (layers_of lists)
+first_layer_is fresh lists e f =
+    let one : length (layers_of lists) ≡ 1 = ap length (f ∙ ap (λ (ls : List Layer). ls ++ [] ∷ []) e) in omega (arith, one)
+
+pub lists_given_as : (ids ids' names names' : List GlobalId) (old new : Lists) → ids' ≡ ids → names' ≡ names →
+    PutsAll ids' names' (layers_of old) (layers_of new) → list_of new ≡ giving ids names (list_of old)
+lists_given_as ids ids' names names' old new e f p =
+    lists_given ids' names' old new p ∙ ap₂ (λ (xs ys : List GlobalId). giving xs ys (list_of old)) e f

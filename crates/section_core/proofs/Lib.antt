@@ -1,3 +1,4 @@
 pub mod Gathered
 pub mod Outsiders
 pub mod Layered
+pub mod Discharged

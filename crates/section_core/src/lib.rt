@@ -3,6 +3,7 @@
 #![tactic(auto)]
 
 mod copying;
+mod discharging;
 mod entry;
 mod fault;
 mod keeping;

@@ -8,7 +8,9 @@ ghost use Rattle.section_terms.specs.Hypotheses.{ids_of, without_lets};
 ghost use Rattle.section_terms.specs.Names.{names_in};
 ghost use Rattle.section_terms.specs.Used.{names_in_body, names_in_constructors, names_in_types, statement_names, body_names};
 ghost use Rattle.section_uses.specs.Kept.{hypothesis};
+ghost use Rattle.section_core.specs.Answers.{Declares, DeclaresFirst};
 
+use crate::copying::copied_id;
 use cic_env::{CtorDecl, Decl, IndType};
 use cic_names::GlobalId;
 use cic_terms::Term;
@@ -19,7 +21,7 @@ use std::alloc::Global;
 fn note_id(id: &GlobalId, ids: &mut Vec<GlobalId>) -> Result<(), NoMemory>
     ensures { OnOk result (ids.new.items ≡ ids.old.items ++ id.now ∷ []) }
 {
-    ids.push(id.clone()?)?;
+    ids.push(copied_id(id)?)?;
     Ok(())
 }
 
@@ -142,6 +144,15 @@ pub(crate) fn ids_declared(alloc: Global, decl: &Decl) -> Result<Vec<GlobalId>, 
     let mut ids = Vec::new(alloc);
     note_declared(decl, &mut ids)?;
     Ok(ids)
+}
+
+/// The id that a declaration declares first.
+pub(crate) fn first_id(alloc: Global, decl: &Decl) -> Result<GlobalId, NoMemory>
+    requires { Declares (declaration decl.now) }
+    ensures { IfOk result (λ id. DeclaresFirst id (declaration decl.now)) }
+{
+    let ids = ids_declared(alloc, decl)?;
+    copied_id(&ids[0])
 }
 
 /// The ids of hypotheses.
