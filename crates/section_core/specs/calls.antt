@@ -2,3 +2,4 @@
 pub mod Names
 pub mod Layers
 pub mod Stored
+pub mod States

@@ -8,6 +8,8 @@ mod entry;
 mod fault;
 mod keeping;
 mod naming;
+mod open_section;
+mod state;
 mod uses;
 mod using;
 

@@ -1,5 +1,5 @@
 -- What entries of the program stand for, and when they are right.
-use Rattle.std.specs.Prelude.{◌≡◌, List, [], ◌∷◌, ◌++◌, map}
+use Rattle.std.specs.Prelude.{ℕ, ◌≡◌, List, [], ◌∷◌, ◌++◌, map}
 use Rattle.cic_names.specs.declared.name.GlobalId.{GlobalId}
 use Rattle.cic_rules.specs.Environment.{Declaration, declared_ids}
 use Rattle.cic_env.specs.Declarations.{declaration}
@@ -86,3 +86,14 @@ IsRefused old term_fault.NoMemory fault = fault ≡ not_left.NoMemory
 IsRefused old term_fault.Deep (not_left.WrongEnd found inner) = ⊥
 IsRefused old term_fault.Deep (not_left.Deep id) = DeclaresFirst id old
 IsRefused old term_fault.Deep not_left.NoMemory = Unit {0}
+
+abbrev pub IsWrongEnd : (name own : List ℕ) → LeaveFault → Type 0
+IsWrongEnd name own (not_left.WrongEnd found inner) = (found ≡ name) × (inner ≡ own)
+IsWrongEnd name own (not_left.Deep id) = ⊥
+IsWrongEnd name own not_left.NoMemory = Unit {0}
+
+-- Each declaration among entries declares something.
+abbrev pub EntriesDeclare : List Entry → Type 0
+EntriesDeclare [] = Unit {0}
+EntriesDeclare (assumed h ∷ es) = EntriesDeclare es
+EntriesDeclare (added d u ∷ es) = Declares d × EntriesDeclare es
