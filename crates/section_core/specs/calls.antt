@@ -3,3 +3,4 @@ pub mod Names
 pub mod Layers
 pub mod Stored
 pub mod States
+pub mod Codes

@@ -9,9 +9,11 @@ mod fault;
 mod keeping;
 mod naming;
 mod open_section;
+mod sections;
 mod state;
 mod uses;
 mod using;
 
 pub use fault::{AddFault, LeaveFault};
+pub use sections::Sections;
 pub use using::Using;
