@@ -1,5 +1,5 @@
 -- What the state of sections stands for, and when it is right.
-use Rattle.std.specs.Prelude.{ℕ, ◌≡◌, List, [], ◌∷◌, ◌++◌, length, map, reverse}
+use Rattle.std.specs.Prelude.{ℕ, ◌≡◌, Bool, true, false, Result, Ok, Err, List, [], ◌∷◌, ◌++◌, length, map, reverse}
 use Rattle.cic_rules.specs.Environment.{Declaration}
 use Rattle.cic_env.specs.Declarations.{declaration}
 use Rattle.section_terms.specs.Hypotheses.{Hypothesis}
@@ -76,3 +76,15 @@ abbrev pub IsNotKept : OpenSection → (name : List ℕ) → LeaveFault → Type
 IsNotKept s name (not_left.WrongEnd found inner) = (found ≡ name) × (inner ≡ s.name) × ¬ (found ≡ inner)
 IsNotKept s name (not_left.Deep id) = (s.name ≡ name) × IsFirstDeep id (declarations_of (kept_stored (λ c. []) s.entries.items))
 IsNotKept s name not_left.NoMemory = Unit {0}
+
+-- There was no memory for a call.
+abbrev pub add_spent : {A : Type 0} → Result A AddFault → Bool
+add_spent (Ok x) = false
+add_spent (Err (not_added.UsesUndeclared proof variable)) = false
+add_spent (Err not_added.NoMemory) = true
+
+abbrev pub leave_spent : {A : Type 0} → Result A LeaveFault → Bool
+leave_spent (Ok x) = false
+leave_spent (Err (not_left.WrongEnd found inner)) = false
+leave_spent (Err (not_left.Deep id)) = false
+leave_spent (Err not_left.NoMemory) = true
