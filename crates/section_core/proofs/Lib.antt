@@ -5,3 +5,4 @@ pub mod Discharged
 pub mod Opened
 pub mod Judged
 pub mod Ended
+pub mod Once

@@ -7,6 +7,7 @@ mod discharging;
 mod entry;
 mod fault;
 mod keeping;
+mod laws;
 mod naming;
 mod open_section;
 mod sections;
@@ -15,5 +16,6 @@ mod uses;
 mod using;
 
 pub use fault::{AddFault, LeaveFault};
+pub use laws::{inner_then_outer_is_once, kept_where_nothing_is_named};
 pub use sections::Sections;
 pub use using::Using;
