@@ -4,3 +4,4 @@ pub mod Layers
 pub mod Stored
 pub mod States
 pub mod Codes
+pub mod Worked
