@@ -6,9 +6,9 @@ use Rattle.cic_terms.proofs.Children.{drop_at, drop_whole}
 use Rattle.cic_names.specs.declared.name.GlobalId.{GlobalId}
 use Rattle.cic_rules.specs.Environment.{Declaration, axiom_of, transparent, opaque, inductive, ConstructorDeclaration, TypeDeclaration, declared_ids, constructor_ids, type_ids}
 use Rattle.section_terms.specs.Hypotheses.{Hypothesis}
-use Rattle.section_terms.specs.Discharge.{DeclarationFits, generalised, generalised_constructor, generalised_type_declaration}
+use Rattle.section_terms.specs.Discharge.{generalised, generalised_constructor, generalised_type_declaration}
 use Rattle.section_core.specs.Sections.{Entry, assumed, added}
-use Rattle.section_core.specs.Answers.{declarations_of, AllFit, DeclaresFirst, IsFirstDeep}
+use Rattle.section_core.specs.Answers.{declarations_of, AllFit, IsFirstDeep}
 use Rattle.section_core.specs.calls.Stored.{DeclaresStored, AllDeclare, with_own, made_of, arguments_after, kept_of, kept_stored, IsNotMade, AreNotMade}
 use Rattle.cic_env.specs.Declarations.{declaration}
 use Rattle.section_uses.specs.Kept.{hypothesis}
@@ -63,7 +63,7 @@ pub entry_not_made : (e : Stored) (a : Added) (arguments : GlobalId → List Glo
     IfErr r (IsNotMade (declaration a.decl) (made_of a (with_own a arguments))) → IfErr r (AreNotMade (declarations_of (kept_of e arguments)))
 entry_not_made e a arguments r is p =
     let same : declared_ids (made_of a (with_own a arguments)) ≡ declared_ids (declaration a.decl) =
-      same_declared_ids (with_own a arguments) (map hypothesis a.uses.items) (declaration a.decl) in
+    same_declared_ids (with_own a arguments) (map hypothesis a.uses.items) (declaration a.decl) in
     subst (λ (x : Stored). IfErr r (AreNotMade (declarations_of (kept_of x arguments)))) (sym is)
     (MatchResult-weaker r p (λ _ h. h) (λ fault h. one_not_made (declaration a.decl) (made_of a (with_own a arguments)) fault same h))
 
@@ -128,7 +128,7 @@ module _ (entries : List Stored) (i : ℕ) (e : Stored) (lt : i < length entries
       let rest : List Entry = kept_stored (arguments_after e arguments) (drop (i + 1) entries) in
       subst (λ (ds : List Declaration). AreNotMade ds fault)
       (ap (λ (ds : List Declaration). declarations_of all ++ ds) (sym (declared_both (kept_of e arguments) rest))
-        ∙ sym (declared_both all (kept_of e arguments ++ rest)) ∙ ap declarations_of whole)
+      ∙ sym (declared_both all (kept_of e arguments ++ rest)) ∙ ap declarations_of whole)
       (not_made_after (declarations_of all) (declarations_of (kept_of e arguments)) (declarations_of rest) fault so_far.fit p)
 
 pub kept_all : (entries : List Stored) (i : ℕ) (all : List Entry) (arguments : GlobalId → List GlobalId) → length entries ≤ i → IsKeptSoFar entries i all arguments → all ≡ kept_stored no_arguments entries

@@ -1,7 +1,7 @@
 -- The end of a section.
-use Rattle.std.proofs.Common.{◌≡◌, ℕ, ◌+◌, ◌-◌, ◌<◌, ◌≤◌, Option, Some, option_map, Result, IfOk, IfErr, OnOk, List, Vec, [], ◌∷◌, ◌++◌, map, length, reverse, take, drop, get_or, refl, sym, ap, ap₂, subst, ◌∙◌, append_assoc, arith}
+use Rattle.std.proofs.Common.{◌≡◌, ℕ, ◌+◌, ◌<◌, ◌≤◌, Some, option_map, Result, IfErr, List, [], ◌∷◌, ◌++◌, map, length, reverse, take, drop, get_or, refl, sym, ap, subst, ◌∙◌, append_assoc, arith}
 use Rattle.std.proofs.lemmas.List.{append-nil, reverse-append, take_all, length-map, length-reverse}
-use Rattle.std.proofs.lemmas.Result.{MatchResult-weaker, on_ok_weaker}
+use Rattle.std.proofs.lemmas.Result.{MatchResult-weaker}
 use Rattle.cic_names.specs.declared.name.GlobalId.{GlobalId}
 use Rattle.cic_rules.specs.Environment.{Declaration, declared_ids}
 use Rattle.cic_env.specs.Declarations.{declaration}
@@ -10,12 +10,11 @@ use Rattle.cic_terms.proofs.Gathered.{take_more}
 use Rattle.section_terms.specs.Hypotheses.{Hypothesis, ids_of, without_lets}
 use Rattle.section_terms.specs.Discharge.{generalised}
 use Rattle.section_uses.specs.Kept.{hypothesis, Layer, layers_of}
-use Rattle.section_core.specs.Sections.{Entry, assumed, added, Section, Known, know, known, giving, used_by, kept, into_innermost, innermost, kept_at_end}
+use Rattle.section_core.specs.Sections.{Entry, assumed, added, Section, Known, know, known, giving, kept, into_innermost, innermost, kept_at_end}
 use Rattle.section_core.specs.Answers.{Declares, IsFirstDeep, declarations_of, section_name, IsNotLeft}
 use Rattle.section_core.specs.calls.Names.{allowed}
-use Rattle.section_core.specs.calls.Stored.{entry_of, UsesRight, DeclaresStored, AllDeclare, with_own, made_of, kept_stored, kept_entry, EntriesDeclare}
-use Rattle.section_core.specs.calls.States.{section_of, sections_of, IsRight, AreRight, IsState, IsNotKept}
-use Rattle.section_core.specs.declared.entry.Added.{Added}
+use Rattle.section_core.specs.calls.Stored.{entry_of, UsesRight, AllDeclare, with_own, made_of, kept_stored, kept_entry, EntriesDeclare}
+use Rattle.section_core.specs.calls.States.{section_of, sections_of, AreRight, IsState, IsNotKept}
 use Rattle.section_core.specs.declared.entry.Kept.{Kept}
 use Rattle.section_core.specs.declared.entry.Entry.{Entry as Stored}
 use Rattle.section_core.specs.declared.entry.Entry.TheVariants as stored
@@ -37,9 +36,9 @@ kept_is k own arguments (stored.Added a ∷ es) right =
     let d : Declaration = declaration a.decl in
     let next : Known = know k (added d (allowed a.usage)) in
     let whole : List Hypothesis → List Entry
-      = λ us.
-        added (generalised (giving (declared_ids d) (ids_of (without_lets us)) arguments) us d) (allowed a.usage)
-        ∷ kept next own (giving (declared_ids d) (ids_of (without_lets us)) arguments) (map entry_of es) in
+    = λ us.
+    added (generalised (giving (declared_ids d) (ids_of (without_lets us)) arguments) us d) (allowed a.usage)
+    ∷ kept next own (giving (declared_ids d) (ids_of (without_lets us)) arguments) (map entry_of es) in
     ap whole (sym right.0)
     ∙ ap (λ (rest : List Entry). added (made_of a (with_own a arguments)) (allowed a.usage) ∷ rest) (kept_is next own (with_own a arguments) es right.2)
 
@@ -128,7 +127,7 @@ length_of_sections s = length-map (reverse s.sections.items) section_of ∙ leng
 pub still_open : (old new : State) (es : List Entry) → sections_of new ≡ into_innermost (sections_of old) es → 0 < length old.sections.items → 0 < length new.sections.items
 still_open old new es e some =
     let same : length new.sections.items ≡ length old.sections.items =
-      sym (length_of_sections new) ∙ ap length e ∙ same_length (sections_of old) es ∙ length_of_sections old in
+    sym (length_of_sections new) ∙ ap length e ∙ same_length (sections_of old) es ∙ length_of_sections old in
     omega (arith, same, some)
 
 module _ (all : List Kept) (i : ℕ) (k : Kept) (lt : i < length all) (at : k ≡ get_or all i k) where

@@ -6,7 +6,7 @@ use Rattle.section_terms.specs.Hypotheses.{Hypothesis, ids_of}
 use Rattle.section_terms.specs.Used.{used, body_names}
 use Rattle.section_uses.specs.Kept.{hypothesis, list_of}
 use Rattle.section_uses.specs.declared.hypothesis.Hypothesis.{Hypothesis as Kept}
-use Rattle.section_core.specs.Sections.{Allowed, Section, Known, known, used_by, first_outside, undeclared}
+use Rattle.section_core.specs.Sections.{Allowed, Section, known, used_by, first_outside, undeclared}
 use Rattle.section_core.specs.Answers.{name_of, IsNotAdded}
 use Rattle.section_core.specs.calls.Names.{id_of}
 use Rattle.section_core.specs.calls.States.{sections_of, IsState, IsUndeclared}
@@ -20,7 +20,7 @@ pub undeclared_is : (s : State) (d : Declaration) (u : Allowed) (uses : List Hyp
     first_outside (ids_of uses) (used (list_of s.over) (map hypothesis hs) (body_names d)) ≡ undeclared (known (sections_of s)) d u
 undeclared_is s d u uses hs is same e =
     let first : (GlobalId → List GlobalId) → List Hypothesis → Option Hypothesis
-        = λ f gs. first_outside (ids_of (used_by f gs d u)) (used f gs (body_names d)) in
+    = λ f gs. first_outside (ids_of (used_by f gs d u)) (used f gs (body_names d)) in
     ap₂ (λ (us : List Hypothesis) (ks : List Kept). first_outside (ids_of us) (used (list_of s.over) (map hypothesis ks) (body_names d))) e same
     ∙ ap₂ first (known_over s is) is.hypotheses
 

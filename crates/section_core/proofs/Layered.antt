@@ -1,5 +1,5 @@
 -- One list that is kept for several ids.
-use Rattle.std.proofs.Common.{◌≡◌, ℕ, ◌<◌, Bool, true, false, ◌||◌, if◌then◌else◌, Option, Some, List, Vec, [], ◌∷◌, ◌++◌, length, reverse, refl, sym, ap, ap₂, subst, ◌∙◌, arith}
+use Rattle.std.proofs.Common.{◌≡◌, ◌<◌, Bool, true, false, ◌||◌, if◌then◌else◌, Option, Some, List, Vec, [], ◌∷◌, ◌++◌, length, reverse, refl, sym, ap, ap₂, subst, ◌∙◌, arith}
 use Rattle.std.proofs.lemmas.List.{reverse-append, reverse-reverse, length-reverse}
 use Rattle.std.specs.Map.{lookup}
 use Rattle.std.specs.declared.rc.Rc.{Rc}
@@ -93,9 +93,9 @@ last_given ls l earlier e =
 pub lists_given : (ids names : List GlobalId) (old new : Lists) → PutsAll ids names (layers_of old) (layers_of new) → list_of new ≡ giving ids names (list_of old)
 lists_given ids names old new p =
     same_everywhere (list_of new) (giving ids names (list_of old)) (λ c.
-        ap (λ (f : GlobalId → List GlobalId). f c) (last_given (layers_of new) p.changed p.earlier p.is)
-        ∙ p.gives (all_layered nothing_below (reverse p.earlier)) c
-        ∙ ap (λ (f : GlobalId → List GlobalId). giving ids names f c) (sym (last_given (layers_of old) p.last p.earlier p.was)))
+    ap (λ (f : GlobalId → List GlobalId). f c) (last_given (layers_of new) p.changed p.earlier p.is)
+    ∙ p.gives (all_layered nothing_below (reverse p.earlier)) c
+    ∙ ap (λ (f : GlobalId → List GlobalId). giving ids names f c) (sym (last_given (layers_of old) p.last p.earlier p.was)))
 
 -- A new layer gives nothing.
 pub first_layer : (fresh lists : Lists) → layers_of fresh ≡ [] → layers_of lists ≡ layers_of fresh ++ [] ∷ [] → list_of lists ≡ (λ c. [])

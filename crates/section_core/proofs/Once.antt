@@ -1,5 +1,5 @@
 -- The laws.
-use Rattle.std.proofs.Common.{◌≡◌, ℕ, ◌+◌, Bool, false, if◌then◌else◌, is_none, filter, Option, Some, None, option_map, List, [], ◌∷◌, ◌++◌, map, length, refl, sym, ap, ap₂, ◌∙◌, arith}
+use Rattle.std.proofs.Common.{◌≡◌, ℕ, ◌+◌, Bool, false, if◌then◌else◌, is_none, Option, Some, None, option_map, List, [], ◌∷◌, ◌++◌, map, length, refl, sym, ap, ap₂, ◌∙◌, arith}
 use Rattle.std.proofs.lemmas.List.{append-nil, map-append, length-append}
 use Rattle.std.proofs.lemmas.List.Elements.{filter-append}
 use Rattle.cic_names.specs.declared.name.GlobalId.{GlobalId}
@@ -32,12 +32,12 @@ kept_alone : (k : Known) (own : List Hypothesis) (arguments : Arguments) (d : De
     kept k own arguments (added d u ∷ es) ≡ added d u ∷ kept (know k (added d u)) own (giving (declared_ids d) [] arguments) es
 kept_alone k own arguments d u es e none =
     let whole : List Hypothesis → List Entry
-      = λ us.
-        added (generalised (giving (declared_ids d) (ids_of (without_lets us)) arguments) us d) u
-        ∷ kept (know k (added d u)) own (giving (declared_ids d) (ids_of (without_lets us)) arguments) es in
+    = λ us.
+    added (generalised (giving (declared_ids d) (ids_of (without_lets us)) arguments) us d) u
+    ∷ kept (know k (added d u)) own (giving (declared_ids d) (ids_of (without_lets us)) arguments) es in
     ap whole e
     ∙ ap (λ (x : Declaration). added x u ∷ kept (know k (added d u)) own (giving (declared_ids d) [] arguments) es)
-      (kept_as_it_is (giving (declared_ids d) [] arguments) d none)
+    (kept_as_it_is (giving (declared_ids d) [] arguments) d none)
 
 pub free_kept : (k : Known) (own : List Hypothesis) (arguments : Arguments) (d : Declaration) (es : List Entry) → NameNone k.over own (statement_names d ++ body_names d) →
     HaveNoArguments (giving (declared_ids d) [] arguments) (statement_names d ++ body_names d) →
@@ -65,7 +65,7 @@ module _ (outer inner : Arguments) (none : (c : GlobalId) → HaveNoArguments ou
       let make : Tree → Option Tree → Hypothesis = λ t b. record { id = h.id; type = t; body = b } in
       ap₂ ◌∷◌
       (ap₂ make (applied_joined h.type (first_names inner (names_in h.type) (names_in_body h.body) first))
-        (body_joined h.body (last_names inner (names_in h.type) (names_in_body h.body) first)))
+      (body_joined h.body (last_names inner (names_in h.type) (names_in_body h.body) first)))
       (hypotheses_joined hs (last_names inner (names_in_hypothesis h) (names_in_hypotheses hs) own))
 
   module _ (os is : List Hypothesis) (fresh : AreFresh outer is) (own : HaveNoArguments inner (names_in_hypotheses os)) where

@@ -154,9 +154,10 @@ module _ (e : Stored) (old new : State) (p : PutsIn e old new) where
       let others : ls ≡ h.rest = cc in
       let right : IsRight (around (reverse p.rest)) p.inner l = subst (λ (x : Layer). IsRight (around (reverse p.rest)) p.inner x) (sym same) h.right in
       subst (λ (xs : List Layer). AreRight (reverse new.sections.items) xs) (sym g)
-      (subst (λ (os : List OpenSection). AreRight os (l' ∷ ls)) (sym (turned new.sections.items p.rest p.changed p.is))
-        (right_changed e p.inner p.changed (reverse p.rest) l l' p.puts right entry (over (around (reverse p.rest)).over right.over),
-          subst (λ (xs : List Layer). AreRight (reverse p.rest) xs) (sym others) h.outer))
+      (subst (λ (os : List OpenSection). AreRight os (l' ∷ ls)) (sym (turned new.sections.items p.rest p.changed p.is)) (
+        right_changed e p.inner p.changed (reverse p.rest) l l' p.puts right entry (over (around (reverse p.rest)).over right.over),
+        subst (λ (xs : List Layer). AreRight (reverse p.rest) xs) (sym others) h.outer,
+      ))
 
 -- A hypothesis is put into the innermost section.
 pub assumed_right : (h copy : Kept) (old new : State) → PutsIn (stored.Assumed h) old new → IsState old → new.hypotheses.items ≡ old.hypotheses.items ++ copy ∷ [] →
@@ -205,7 +206,7 @@ module _ (old : State) (inner : OpenSection) (rest : List OpenSection) (was : ol
       LosesLast (layers_of old.over) (layers_of new.over) → IsState new
   closed_right new same hypotheses loses =
       let both : loses.last ∷ reverse (layers_of new.over) ≡ here.first ∷ here.rest =
-        sym (ap reverse loses.was ∙ reverse-append (layers_of new.over) (loses.last ∷ [])) ∙ here.is in
+      sym (ap reverse loses.was ∙ reverse-append (layers_of new.over) (loses.last ∷ [])) ∙ here.is in
       let others : here.rest ≡ reverse (layers_of new.over) = cc in
       record {
         right = subst (λ (os : List OpenSection). AreRight (reverse os) (reverse (layers_of new.over))) (sym same)
@@ -241,11 +242,11 @@ module _ (a : Added) (old new : State) (p : PutsIn (stored.Added a) old new) (is
       PutsAll (declared_ids decl) (ids_of uses) (layers_of old.over) (layers_of new.over) → IsState new
   put_added uses same declares all own q =
       let over : (below : GlobalId → List GlobalId) → layered below q.last ≡ (within p.inner (reverse p.rest)).over →
-          layered below q.changed ≡ giving (declared_ids decl) (ids_of (used_by (within p.inner (reverse p.rest)).over (within p.inner (reverse p.rest)).hypotheses decl usage)) (within p.inner (reverse p.rest)).over
-        = λ below e.
-          same_everywhere (layered below q.changed) (giving (declared_ids decl) (ids_of uses) (layered below q.last)) (q.gives below)
-          ∙ ap₂ (λ (us : List Hypothesis) (f : GlobalId → List GlobalId). giving (declared_ids decl) (ids_of us) f)
-              (all ∙ ap₂ (λ (f : GlobalId → List GlobalId) (hs : List Hypothesis). used_by f hs decl usage) over_within hypotheses_within) e in
+      layered below q.changed ≡ giving (declared_ids decl) (ids_of (used_by (within p.inner (reverse p.rest)).over (within p.inner (reverse p.rest)).hypotheses decl usage)) (within p.inner (reverse p.rest)).over
+      = λ below e.
+      same_everywhere (layered below q.changed) (giving (declared_ids decl) (ids_of uses) (layered below q.last)) (q.gives below)
+      ∙ ap₂ (λ (us : List Hypothesis) (f : GlobalId → List GlobalId). giving (declared_ids decl) (ids_of us) f)
+      (all ∙ ap₂ (λ (f : GlobalId → List GlobalId) (hs : List Hypothesis). used_by f hs decl usage) over_within hypotheses_within) e in
       record {
         right = put_right (stored.Added a) old new p q.last q.changed q.earlier is q.was q.is
             (own ∙ ap₂ (λ (f : GlobalId → List GlobalId) (hs : List Hypothesis). used_by f hs decl usage) over_within (own_hypotheses old p.inner p.rest p.was is), declares)

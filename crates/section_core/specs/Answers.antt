@@ -1,5 +1,5 @@
 -- What calls on sections answer.
-use Rattle.std.specs.Prelude.{ℕ, ◌≡◌, Option, option_map, Some, None, List, [], ◌∷◌, ◌++◌}
+use Rattle.std.specs.Prelude.{ℕ, ◌≡◌, option_map, Some, List, [], ◌∷◌, ◌++◌}
 use Rattle.cic_names.specs.declared.name.GlobalId.{GlobalId}
 use Rattle.cic_rules.specs.Environment.{Declaration, declared_ids}
 use Rattle.section_terms.specs.Hypotheses.{Hypothesis}

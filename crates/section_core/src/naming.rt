@@ -156,7 +156,10 @@ pub(crate) fn first_id(alloc: Global, decl: &Decl) -> Result<GlobalId, NoMemory>
 }
 
 /// The ids of hypotheses.
-pub(crate) fn hypothesis_ids(alloc: Global, hypotheses: &[Hypothesis]) -> Result<Vec<GlobalId>, NoMemory>
+pub(crate) fn hypothesis_ids(
+    alloc: Global,
+    hypotheses: &[Hypothesis],
+) -> Result<Vec<GlobalId>, NoMemory>
     ensures { IfOk result (λ ids. ids.items ≡ ids_of (map hypothesis hypotheses.now)) }
 {
     let mut ids = Vec::new(alloc);
@@ -176,7 +179,10 @@ fn note_variable(h: &Hypothesis, ids: &mut Vec<GlobalId>) -> Result<(), NoMemory
 }
 
 /// The ids of the variables among hypotheses.
-pub(crate) fn variable_ids(alloc: Global, hypotheses: &[Hypothesis]) -> Result<Vec<GlobalId>, NoMemory>
+pub(crate) fn variable_ids(
+    alloc: Global,
+    hypotheses: &[Hypothesis],
+) -> Result<Vec<GlobalId>, NoMemory>
     ensures { IfOk result (λ ids. ids.items ≡ ids_of (without_lets (map hypothesis hypotheses.now))) }
 {
     let mut ids = Vec::new(alloc);

@@ -42,23 +42,7 @@ impl Model for Sections {
     ghost invariant = { λ s. IsState s.state };
 }
 
-impl State {
-    ghost use Rattle.std.specs.Prelude.{◌≡◌, [], true, false};
-    ghost use Rattle.section_core.specs.calls.States.{IsState, sections_of};
-
-    /// Closes all sections, if there was no memory.
-    fn settle(&mut self, alloc: Global, spent: bool)
-        requires { spent ≡ false → IsState self.old }
-        ensures right { IsState self.new }
-        ensures none { spent ≡ true → sections_of self.new ≡ [] }
-        ensures same { spent ≡ false → self.new ≡ self.old }
-    {
-        if spent {
-            *self = State::new(alloc);
-        }
-    }
-}
-
+/// A variable, which a term speaks of as of a constant.
 fn variable(alloc: Global, id: GlobalId, ty: Term) -> Result<Hypothesis, NoMemory>
     ensures { IfOk result (λ h. hypothesis h ≡ record { id = id; type = tree ty; body = None }) }
 {
@@ -66,6 +50,7 @@ fn variable(alloc: Global, id: GlobalId, ty: Term) -> Result<Hypothesis, NoMemor
     Ok(Hypothesis { id, ty, body: None })
 }
 
+/// A let.
 fn binding(alloc: Global, id: GlobalId, ty: Term, body: Term) -> Result<Hypothesis, NoMemory>
     ensures { IfOk result (λ h. hypothesis h ≡ record { id = id; type = tree ty; body = Some (tree body) }) }
 {
@@ -123,6 +108,7 @@ impl Sections {
         entered
     }
 
+    /// Puts a hypothesis into the innermost section.
     fn put(&mut self, h: Hypothesis) -> Result<(), NoMemory>
         requires { ¬ (self.old ≡ []) }
         ensures assumed { OnOk result (self.new ≡ into_innermost self.old (assumed (hypothesis h) ∷ [])) }
@@ -167,7 +153,7 @@ impl Sections {
 
     /// Puts a declaration into the innermost section. It is refused where its body uses a hypothesis that it may not use.
     pub fn add(&mut self, decl: &Decl, usage: &Using) -> Result<(), AddFault>
-        requires open { ¬ (self.old ≡ []) }
+        requires some { ¬ (self.old ≡ []) }
         requires declares { Declares (declaration decl.now) }
         ensures added { OnOk result (self.new ≡ into_innermost self.old (added (declaration decl.now) (allowed usage.now) ∷ [])) }
         ensures allowed { OnOk result (undeclared (known self.old) (declaration decl.now) (allowed usage.now) ≡ None) }

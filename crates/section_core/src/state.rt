@@ -94,7 +94,7 @@ fn put_copy(alloc: Global, decl: &Decl, decls: &mut Vec<Decl>) -> Result<(), NoM
 }
 
 impl State {
-    ghost use Rattle.std.specs.Prelude.{◌≡◌, ◌<◌, ◌≤◌, ◌∷◌, [], Some, None, option_map, length, map, drop, IfOk, IfErr, OnOk, vec_len};
+    ghost use Rattle.std.specs.Prelude.{◌≡◌, ◌<◌, ◌≤◌, ◌∷◌, [], true, false, Some, None, option_map, length, map, drop, IfOk, IfErr, OnOk, vec_len};
     ghost use Rattle.cic_env.specs.Declarations.{declaration};
     ghost use Rattle.section_uses.specs.Kept.{hypothesis, list_of};
     ghost use Rattle.section_core.specs.Sections.{assumed, added, used_by, known, undeclared, into_innermost, innermost, kept_at_end, open_after_end};
@@ -112,6 +112,18 @@ impl State {
             sections: Vec::new(alloc),
             hypotheses: Vec::new(alloc),
             over: Lists::new(alloc),
+        }
+    }
+
+    /// Closes all sections, if there was no memory.
+    pub(crate) fn settle(&mut self, alloc: Global, spent: bool)
+        requires { spent ≡ false → IsState self.old }
+        ensures right { IsState self.new }
+        ensures none { spent ≡ true → sections_of self.new ≡ [] }
+        ensures same { spent ≡ false → self.new ≡ self.old }
+    {
+        if spent {
+            *self = State::new(alloc);
         }
     }
 
@@ -212,12 +224,7 @@ impl State {
     }
 
     /// Puts a declaration into the innermost section, unless its body uses hypotheses that it may not use.
-    pub(crate) fn add(
-        &mut self,
-        alloc: Global,
-        decl: &Decl,
-        usage: &Using,
-    ) -> Result<(), AddFault>
+    pub(crate) fn add(&mut self, alloc: Global, decl: &Decl, usage: &Using) -> Result<(), AddFault>
         requires right { IsState self.old }
         requires some { 0 < vec_len self.old.sections }
         requires declares { Declares (declaration decl.now) }

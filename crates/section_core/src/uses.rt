@@ -81,7 +81,11 @@ fn body_uses(
 }
 
 /// The id of the first hypothesis that is not among these.
-fn outside(alloc: Global, ids: &[GlobalId], hypotheses: &[Hypothesis]) -> Result<Option<GlobalId>, NoMemory>
+fn outside(
+    alloc: Global,
+    ids: &[GlobalId],
+    hypotheses: &[Hypothesis],
+) -> Result<Option<GlobalId>, NoMemory>
     ensures { IfOk result (λ r. r ≡ option_map id_of (first_outside ids.now (map hypothesis hypotheses.now))) }
 {
     let mut seen = Seen::new(alloc);

@@ -1,5 +1,5 @@
 -- A code of trees, by which a proof tells them apart.
-use Rattle.std.proofs.Common.{◌≡◌, ℕ, refl, sym, ap, ap₂}
+use Rattle.std.proofs.Common.{◌≡◌, refl, ap, ap₂}
 use base.Stored.{Gv, gnil, gnum, gcons, Coded}
 use Rattle.std.specs.Coded.{codes}
 use Rattle.cic_terms.specs.Tree.{Former, Binders, Tree, rel, node, Children, no_child, child}
@@ -21,6 +21,7 @@ mutual
 
 mutual
   unfolding tree_as parts_as
+
   same_tree : (x y : Tree) → tree_as x ≡ tree_as y → x ≡ y
   same_tree (rel m) (rel n) p = let e : m ≡ n = cc in ap rel e
   same_tree (rel m) (node g us) p = cc

@@ -1,5 +1,5 @@
 -- What the program's word for the hypotheses that a declaration may use stands for, and the names by which they are found.
-use Rattle.std.specs.Prelude.{List, [], ◌++◌, Vec}
+use Rattle.std.specs.Prelude.{List, ◌++◌}
 use Rattle.cic_names.specs.declared.name.GlobalId.{GlobalId}
 use Rattle.cic_rules.specs.Environment.{Declaration}
 use Rattle.section_terms.specs.Hypotheses.{Hypothesis}

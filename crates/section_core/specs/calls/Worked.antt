@@ -1,12 +1,12 @@
 -- Worked sections of a library A. The ids and hypotheses are those of the section of the examples of definitions:
 --   Variable a : Prop. Variable h : a. Let l : a := h. Variable b : Prop.
-use Rattle.std.specs.Prelude.{ℕ, Some, None, List, [], ◌∷◌, codes}
+use Rattle.std.specs.Prelude.{Some, None, List, [], ◌∷◌, codes}
 use Rattle.cic_names.specs.declared.name.GlobalId.{GlobalId}
-use Rattle.cic_terms.specs.Tree.{Tree, prop, rel, sort, prod, lam, app, const, ind}
+use Rattle.cic_terms.specs.Tree.{prop, rel, sort, prod, lam, app, const, ind}
 use Rattle.cic_rules.specs.Environment.{Declaration, transparent, opaque, inductive}
 use Rattle.section_terms.specs.Hypotheses.{Hypothesis}
 use Rattle.section_terms.specs.calls.Examples.{a, h, b, c, d, J, K, variable_a, variable_h, variable_b}
-use Rattle.section_core.specs.Sections.{Allowed, Entry, assumed, added, free, Section}
+use Rattle.section_core.specs.Sections.{Entry, assumed, added, free, Section}
 
 -- A section S with these entries, alone.
 abbrev pub alone : List Entry → List Section
@@ -43,8 +43,8 @@ abbrev pub with_parameter : Declaration
 with_parameter = inductive (record {
   parameters = 1;
   types = record {
-      id = J;
-      arity = prod (sort prop) (sort prop);
-      constructors = record { id = K; type = prod (sort prop) (prod (const a) (app (ind J) (rel 1))) } ∷ [];
-    } ∷ [];
+    id = J;
+    arity = prod (sort prop) (sort prop);
+    constructors = record { id = K; type = prod (sort prop) (prod (const a) (app (ind J) (rel 1))) } ∷ [];
+  } ∷ [];
 })

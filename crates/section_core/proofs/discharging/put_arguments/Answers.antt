@@ -10,5 +10,5 @@ pub returns-clause-applied : goal.returns-clause-applied
 returns-clause-applied c =
     let ids = c.as_slice-2.ensures.value ∙ c.in_ok-ids.ensures in
     let names = ap (λ v. v.items) c.in_ok-variables-2.ensures.ok ∙ c.in_ok-variables.ensures
-      ∙ ap (λ (hs : List Kept). ids_of (without_lets (map hypothesis hs))) c.as_slice.ensures.value in
+    ∙ ap (λ (hs : List Kept). ids_of (without_lets (map hypothesis hs))) c.as_slice.ensures.value in
     on_ok_weaker c.put_all.result (λ p. lists_given_as _ _ _ _ c.args.arguments.now c.put_all.new.lists ids names p) c.put_all.ensures

@@ -2,7 +2,6 @@ use Rattle.std.proofs.Common.{Some, Option, ap, sym, ◌∙◌}
 use Rattle.std.specs.Option.{option_map}
 use Rattle.section_terms.specs.Hypotheses.{Hypothesis}
 use Rattle.section_core.specs.calls.Names.{id_of}
-use Rattle.section_core.specs.Sections.{first_outside}
 use Rattle.section_core.proofs.Outsiders.{seen_are, outside_here, outside_later, outside_none}
 use Rattle.section_core.proofs.uses.outside.Goals as goal
 
@@ -22,5 +21,5 @@ returns-then-not-has c =
     let seen = seen_are c.args.ids.now c.new-seen.result c.see_all.new.self c.h-item.result.id c.new-seen.ensures c.in_ok-see_all.ensures in
     ap Some c.in_ok-copied_id.ensures
     ∙ ap (λ (o : Option Hypothesis). option_map id_of o)
-      (outside_here c.args.ids.now c.args.hypotheses.now c.loop-h.h-index c.h-item.result _ c.loop-h-test.true c.h-item.is
-      (sym seen ∙ sym c.has.ensures ∙ c.if-not-has.true) c.loop-h.invariant)
+    (outside_here c.args.ids.now c.args.hypotheses.now c.loop-h.h-index c.h-item.result _ c.loop-h-test.true c.h-item.is
+    (sym seen ∙ sym c.has.ensures ∙ c.if-not-has.true) c.loop-h.invariant)

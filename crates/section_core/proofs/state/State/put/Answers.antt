@@ -1,6 +1,5 @@
 use Rattle.std.proofs.Common.{[], ◌∷◌, refl, ap, ◌∙◌}
 use Rattle.cic_env.specs.Declarations.{declaration}
-use Rattle.section_uses.specs.Kept.{hypothesis}
 use Rattle.section_core.specs.Sections.{Entry, into_innermost}
 use Rattle.section_core.specs.calls.Names.{allowed}
 use Rattle.section_core.specs.calls.States.{sections_of}
