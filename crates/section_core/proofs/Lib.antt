@@ -6,3 +6,4 @@ pub mod Opened
 pub mod Judged
 pub mod Ended
 pub mod Once
+pub mod Allowing

@@ -22,6 +22,6 @@ pub use examples::{
     what_is_used_is_bound,
 };
 pub use fault::{AddFault, LeaveFault};
-pub use laws::{inner_then_outer_is_once, kept_where_nothing_is_named};
+pub use laws::{inner_then_outer_is_once, kept_where_nothing_is_named, what_is_never_refused};
 pub use sections::Sections;
 pub use using::Using;
