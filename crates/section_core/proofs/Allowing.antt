@@ -1,6 +1,5 @@
 -- A declaration that may use what its body uses, or all, is never refused.
-use Rattle.std.proofs.Common.{◌≡◌, Bool, true, false, ◌||◌, if◌then◌else◌, Option, Some, None, List, [], ◌∷◌, ◌++◌, ◌⊎◌, inl, inr, refl, sym, ap, subst, ◌∙◌, true≢false}
-use Rattle.std.proofs.lemmas.List.{append-nil}
+use Rattle.std.proofs.Common.{◌≡◌, Bool, true, false, ◌||◌, if◌then◌else◌, Option, Some, None, List, [], ◌∷◌, ◌++◌, ◌⊎◌, inl, inr, refl, sym, ap, ◌∙◌, true≢false}
 use Rattle.cic_names.specs.declared.name.GlobalId.{GlobalId}
 use Rattle.cic_names.specs.Sameness.{same_id}
 use Rattle.cic_names.proofs.Equality.{same_id_decides}
@@ -68,8 +67,8 @@ module _ (over : GlobalId → List GlobalId) where
         reach_cases names (names_in_hypothesis h ++ names_in_hypotheses uses) (reach (with_used names' (h ∷ uses')))
         (λ id e. reach_left names' whole id (r id e))
         (reach_cases (names_in_hypothesis h) (names_in_hypotheses uses) (reach (with_used names' (h ∷ uses')))
-          (λ id e. reach_right names' whole id (reach_left (names_in_hypothesis h) (names_in_hypotheses uses') id e))
-          (λ id e. past_one names' h uses' id (more.reaches id (reach_right names (names_in_hypotheses uses) id e))));
+        (λ id e. reach_right names' whole id (reach_left (names_in_hypothesis h) (names_in_hypotheses uses') id e))
+        (λ id e. past_one names' h uses' id (more.reaches id (reach_right names (names_in_hypotheses uses) id e))));
   }
   uses_step names names' h uses uses' false true r f more = record {
     ids = λ id e. or_right (same_id id h.id) (is_in id (ids_of uses')) (more.ids id e);

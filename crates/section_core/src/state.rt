@@ -203,7 +203,7 @@ impl State {
     }
 
     /// Refuses a declaration, which uses these hypotheses, if its body uses others.
-    fn judge(
+    fn judge_body(
         &self,
         alloc: Global,
         decl: &Decl,
@@ -220,6 +220,27 @@ impl State {
         match first_undeclared(alloc, decl, uses, hypotheses, &self.over)? {
             None => Ok(()),
             Some(variable) => refuse(alloc, decl, &variable),
+        }
+    }
+
+    /// The same, where a body that may use what it uses, or all, is not looked at.
+    #[tactic(auto, using(crate::proofs::Allowing::free_allowed, crate::proofs::Allowing::every_allowed))]
+    fn judge(
+        &self,
+        alloc: Global,
+        decl: &Decl,
+        usage: &Using,
+        uses: &[Hypothesis],
+    ) -> Result<(), AddFault>
+        requires right { IsState self.now }
+        requires declares { Declares (declaration decl.now) }
+        requires uses { map hypothesis uses.now ≡ used_by (list_of self.now.over) (map hypothesis self.now.hypotheses.items) (declaration decl.now) (allowed usage.now) }
+        ensures allowed { OnOk result (undeclared (known (sections_of self.now)) (declaration decl.now) (allowed usage.now) ≡ None) }
+        ensures err { IfErr result (IsNotAdded (sections_of self.now) (declaration decl.now) (allowed usage.now)) }
+    {
+        match usage {
+            Using::Free | Using::Every => Ok(()),
+            Using::Statement | Using::Listed(_) => self.judge_body(alloc, decl, usage, uses),
         }
     }
 

@@ -3,7 +3,7 @@ use Rattle.cic_env.specs.Declarations.{declaration}
 use Rattle.section_core.specs.calls.Names.{allowed}
 use Rattle.section_core.specs.calls.States.{sections_of}
 use Rattle.section_core.proofs.Judged.{undeclared_is, none_undeclared, refused_is}
-use Rattle.section_core.proofs.state.State.judge.Goals as goal
+use Rattle.section_core.proofs.state.State.judge_body.Goals as goal
 
 pub returns-in-None-clause-allowed : goal.returns-in-None-clause-allowed
 returns-in-None-clause-allowed c =
