@@ -11,3 +11,4 @@ pub use closing::close;
 pub use hypothesis::Hypothesis;
 pub use lists::Lists;
 pub use noting::note_names;
+pub use seen::Seen;

@@ -12,7 +12,7 @@ use std::alloc::Global;
 
 /// Names that were seen.
 #[derive(Drop)]
-pub(crate) struct Seen {
+pub struct Seen {
     ids: IndexSet<GlobalId>,
 }
 
@@ -25,7 +25,8 @@ fn copied(id: &GlobalId) -> Result<GlobalId, NoMemory>
 impl Seen {
     ghost use Rattle.section_uses.specs.calls.Closing.{has, Sees};
 
-    pub(crate) fn new(alloc: Global) -> Seen
+    /// No names.
+    pub fn new(alloc: Global) -> Seen
         ensures { (id : Id) → has result id ≡ false }
     {
         Seen {
@@ -33,7 +34,8 @@ impl Seen {
         }
     }
 
-    pub(crate) fn has(&self, id: &GlobalId) -> bool
+    /// Whether the name was seen.
+    pub fn has(&self, id: &GlobalId) -> bool
         ensures { result ≡ has self.now id.now }
     {
         self.ids.contains(id)
@@ -47,7 +49,8 @@ impl Seen {
         Ok(())
     }
 
-    fn see_all(&mut self, ids: &[GlobalId]) -> Result<(), NoMemory>
+    /// Sees the names.
+    pub fn see_all(&mut self, ids: &[GlobalId]) -> Result<(), NoMemory>
         ensures { OnOk result (Sees ids.now self.old self.new) }
     {
         for id in ids {

@@ -1,0 +1,4 @@
+pub mod Sections
+pub mod Answers
+pub mod Laws
+pub mod calls
