@@ -62,7 +62,10 @@ pub(crate) fn names_at<'b, 'a>(
 {
     let further = further(ty, parameters)? as usize;
     let parameters = parameters as usize;
-    if binders.len() != parameters + further || !are_blank(&binders[..parameters]) {
+    if binders.len() != parameters + further {
+        return Err(ScopingFault::BadPattern(name));
+    }
+    if !are_blank(&binders[..parameters]) {
         return Err(ScopingFault::BadPattern(name));
     }
     Ok(&binders[parameters..])

@@ -36,9 +36,9 @@ fn grow(table: &mut Vec<Option<usize>>, place: u32) -> Result<(), NoMemory>
 }
 
 /// Writes an entry where there is none.
-fn note(table: &mut [Option<usize>], place: usize, index: usize)
-    requires { place < length table.old }
-    ensures { Notes table.old place index table.new }
+fn note(table: &mut Vec<Option<usize>>, place: usize, index: usize)
+    requires { place < length table.old.items }
+    ensures { Notes table.old.items place index table.new.items }
 {
     if table[place].is_none() {
         table[place] = Some(index);
@@ -48,6 +48,7 @@ fn note(table: &mut [Option<usize>], place: usize, index: usize)
 impl Done {
     ghost use Rattle.std.specs.Prelude.{◌≡◌, ◌∷◌, ◌++◌, [], OnOk};
     ghost use Rattle.std.specs.Option.{option_map};
+    ghost use Rattle.elab_matches.specs.calls.Tables.{index_of};
     ghost use Rattle.elab_matches.specs.calls.Branches.{known_branch, done_of, branch_of};
 
     /// No branches.
@@ -60,13 +61,23 @@ impl Done {
         }
     }
 
+    /// Where the first branch of the constructor at a place stands.
+    fn index(&self, place: usize) -> Option<usize>
+        ensures { result ≡ index_of self.now.branches.items place }
+    {
+        match self.table.get(place) {
+            Some(index) => *index,
+            None => None,
+        }
+    }
+
     /// The first branch of the constructor at a place.
     pub fn branch(&self, place: usize) -> Option<&ReadBranch>
         ensures { option_map (λ b. known_branch b.now) result ≡ branch_of (done_of self.now) place }
     {
-        match self.table.get(place) {
-            Some(Some(index)) => self.branches.get(*index),
-            _ => None,
+        match self.index(place) {
+            Some(index) => self.branches.get(index),
+            None => None,
         }
     }
 

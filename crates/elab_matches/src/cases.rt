@@ -28,15 +28,16 @@ const MOST_DEPTH: u32 = 4000;
 fn first_missing<'p>(constructors: &'p [CtorDecl], done: &Done) -> Option<&'p Name>
     ensures { option_map (λ name. name.now) result ≡ missing (done_of done.now) 0 (map constructor_declaration constructors.now) }
 {
-    for place in 0..constructors.len() {
+    for (place, constructor) in constructors.iter().enumerate() {
         if done.branch(place).is_none() {
-            return Some(&constructors[place].id.name);
+            return Some(&constructor.id.name);
         }
     }
     None
 }
 
 /// One branch more.
+#[tactic(auto, using(crate::proofs::Bodies::branches_more, crate::proofs::Bodies::branches_depth, crate::proofs::Bodies::branches_rels))]
 fn add_case(all: &mut Cases, binders: u32, body: &Part) -> Result<(), NoMemory>
     ensures { OnOk result (branch_list all.new.items.items ≡ join (branch_list all.old.items.items) (child (many binders) (tree body.now.term.value) no_child)) }
 {
@@ -48,14 +49,14 @@ fn add_case(all: &mut Cases, binders: u32, body: &Part) -> Result<(), NoMemory>
 }
 
 /// The branches of so many constructors in their order, if all are there, and their bodies are within the limits.
-fn in_order(alloc: Global, constructors: &[CtorDecl], done: &Done) -> Result<Option<Cases>, NoMemory>
-    ensures { IfOk result (λ found. parts_of found ≡ known_in_order (done_of done.now) 0 (map constructor_declaration constructors.now)) }
+fn in_order(alloc: Global, count: usize, done: &Done) -> Result<Option<Cases>, NoMemory>
+    ensures { IfOk result (λ found. parts_of found ≡ known_in_order (done_of done.now) 0 count) }
 {
     let mut all = Cases {
         items: Vec::new(alloc),
         depth: 0,
     };
-    for place in 0..constructors.len() {
+    for place in 0..count {
         let Some(branch) = done.branch(place) else {
             return Ok(None);
         };
@@ -141,6 +142,6 @@ pub fn case_of<'a>(
     if let Some(name) = first_missing(&ty.ty.ctors, done) {
         return Err(ScopingFault::NoBranch(name.clone()?));
     }
-    let all = in_order(alloc, &ty.ty.ctors, done)?;
+    let all = in_order(alloc, ty.ty.ctors.len(), done)?;
     Ok(case_if(alloc, ty, value, motive, all)?)
 }

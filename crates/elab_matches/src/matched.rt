@@ -2,8 +2,9 @@
 ghost use Rattle.std.specs.Prelude.{◌≡◌, [], IfOk, map, replicate, None};
 ghost use Rattle.std.specs.Option.{option_copied, option_map};
 ghost use Rattle.cic_env.specs.Declarations.{block, type_declaration};
+ghost use Rattle.cic_env.specs.Environments.{items};
 ghost use Rattle.cic_env.specs.Readers.{ctor_of, type_in_block};
-ghost use Rattle.cic_rules.specs.Environment.{element};
+ghost use Rattle.cic_rules.specs.Environment.{whole_block};
 ghost use Rattle.gal_raw.specs.Denotes.{qualified, binder, within, branches};
 ghost use Rattle.gal_scoping.specs.Matches.{further, named_type, named_type_at, type_within, unnamed_type, unnamed_type_at, constructor_meant, type_of_pattern, type_of_branches, first_pattern, matched_type};
 ghost use Rattle.elab_parts.specs.Binders.{around_of};
@@ -12,7 +13,7 @@ ghost use Rattle.elab_parts.specs.calls.Readings.{Reads};
 ghost use Rattle.elab_matches.specs.Matches.{type_of};
 
 use crate::arguments::{binder_texts, further, names_at};
-use cic_env::{Block, CtorOf, IndType};
+use cic_env::{Block, CtorOf, Env, IndType};
 use cic_names::GlobalId;
 use elab_parts::{Around, Place, ScopingFault, global_named, text};
 use gal_raw::{Binder, Branches, QualifiedName, Within};
@@ -140,6 +141,28 @@ fn unnamed_type<'p, 'a>(
     }
 }
 
+/// The same id, which shares its names.
+fn shared_id(id: &GlobalId) -> Result<GlobalId, NoMemory>
+    ensures { IfOk result (λ copy. copy ≡ id.now) }
+{
+    Ok(id.clone()?)
+}
+
+/// The type of this id, with indices without names.
+fn type_of_owner<'p, 'a>(
+    alloc: Global,
+    env: &'p Env,
+    name: &'a [u8],
+    owner: &GlobalId,
+) -> Result<MatchedType<'p, 'a>, ScopingFault<'a>>
+    ensures { Reads type_of (unnamed_type name.now owner.now (whole_block (items env.now) owner.now)) result }
+{
+    match env.whole_block(owner) {
+        Some((b, index)) => unnamed_type(alloc, name, shared_id(owner)?, b, index),
+        None => Err(ScopingFault::BadPattern(name)),
+    }
+}
+
 /// The type of the constructor that a pattern names.
 fn type_of_pattern<'p, 'a>(
     alloc: Global,
@@ -149,12 +172,8 @@ fn type_of_pattern<'p, 'a>(
 ) -> Result<MatchedType<'p, 'a>, ScopingFault<'a>>
     ensures { Reads type_of (type_of_pattern (place_of place.now) (around_of around.now) (qualified x.now)) result }
 {
-    let name = text(x);
-    let id = constructor_meant(place, around, x)?.owner.clone()?;
-    match place.env.whole_block(&id) {
-        Some((b, index)) => unnamed_type(alloc, name, id, b, index),
-        None => Err(ScopingFault::BadPattern(name)),
-    }
+    let found = constructor_meant(place, around, x)?;
+    type_of_owner(alloc, place.env, text(x), found.owner)
 }
 
 /// The constructor of the first pattern.

@@ -1,6 +1,7 @@
 -- Where the branches of constructors stand.
-use Rattle.std.specs.Prelude.{◌≡◌, ℕ, zero, suc, List, [], ◌∷◌, nat_eq, Bool, true, false, Option, Some, None, if◌then◌else◌}
+use Rattle.std.specs.Prelude.{◌≡◌, ℕ, suc, List, [], ◌∷◌, nat_eq, Bool, true, false, Option, Some, None, if◌then◌else◌}
 use Rattle.std.specs.Option.{option_map}
+use Rattle.std.specs.List.{slice_index_or}
 use Rattle.cic_rules.specs.Environment.{or_else}
 use Rattle.elab_matches.specs.declared.branches.ReadBranch.{ReadBranch}
 
@@ -11,9 +12,7 @@ index_of (b ∷ bs) place = if nat_eq place b.place then Some 0 else option_map 
 
 -- What a table says of a place: nothing behind its end.
 abbrev pub entry : List (Option ℕ) → (place : ℕ) → Option ℕ
-entry [] place = None
-entry (x ∷ xs) zero = x
-entry (x ∷ xs) (suc place) = entry xs place
+entry table place = slice_index_or table place None
 
 -- The table has the index of each branch under its place.
 abbrev pub IsTableOf : List ReadBranch → List (Option ℕ) → Type 0
