@@ -4,3 +4,4 @@ pub mod Reading
 pub mod Bodies
 pub mod Places
 pub mod Orders
+pub mod Whole

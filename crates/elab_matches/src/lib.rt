@@ -4,6 +4,7 @@
 mod arguments;
 mod branches;
 mod cases;
+pub mod laws;
 mod matched;
 mod patterns;
 mod sized;
@@ -12,5 +13,5 @@ mod values;
 pub use branches::{Done, ReadBranch};
 pub use cases::case_of;
 pub use matched::{MatchedType, matched_type};
-pub use patterns::{Pattern, pattern_read};
+pub use patterns::{Pattern, add_branch, pattern_read};
 pub use values::value_name;

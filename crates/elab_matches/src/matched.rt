@@ -1,12 +1,12 @@
 //! The type of a match.
-ghost use Rattle.std.specs.Prelude.{◌≡◌, [], IfOk, map, replicate, None};
+ghost use Rattle.std.specs.Prelude.{◌≡◌, [], IfOk, OnOk, map, replicate, None, Ok};
 ghost use Rattle.std.specs.Option.{option_copied, option_map};
 ghost use Rattle.cic_env.specs.Declarations.{block, type_declaration};
 ghost use Rattle.cic_env.specs.Environments.{items};
 ghost use Rattle.cic_env.specs.Readers.{ctor_of, type_in_block};
 ghost use Rattle.cic_rules.specs.Environment.{whole_block};
 ghost use Rattle.gal_raw.specs.Denotes.{qualified, binder, within, branches};
-ghost use Rattle.gal_scoping.specs.Matches.{further, named_type, named_type_at, type_within, unnamed_type, unnamed_type_at, constructor_meant, type_of_pattern, type_of_branches, first_pattern, matched_type};
+ghost use Rattle.gal_scoping.specs.Matches.{around_motive, further, named_type, named_type_at, type_within, unnamed_type, unnamed_type_at, constructor_meant, type_of_pattern, type_of_branches, first_pattern, matched_type};
 ghost use Rattle.elab_parts.specs.Binders.{around_of};
 ghost use Rattle.elab_parts.specs.Places.{place_of};
 ghost use Rattle.elab_parts.specs.calls.Readings.{Reads};
@@ -15,7 +15,7 @@ ghost use Rattle.elab_matches.specs.Matches.{type_of};
 use crate::arguments::{binder_texts, further, names_at};
 use cic_env::{Block, CtorOf, Env, IndType};
 use cic_names::GlobalId;
-use elab_parts::{Around, Place, ScopingFault, global_named, text};
+use elab_parts::{Around, Place, ScopingFault, enter_all, global_named, text};
 use gal_raw::{Binder, Branches, QualifiedName, Within};
 use memory::NoMemory;
 use std::alloc::Global;
@@ -27,6 +27,16 @@ pub struct MatchedType<'p, 'a> {
     pub ty: &'p IndType,
     pub parameters: u32,
     pub indices: Vec<Option<&'a [u8]>>,
+}
+
+impl<'a> MatchedType<'_, 'a> {
+    /// Puts the binders of the indices, and inside them that of the value, inside all others.
+    pub fn enter(&self, around: &mut Around<'a>, value: Option<&'a [u8]>) -> Result<(), NoMemory>
+        ensures { OnOk result (around_of around.new ≡ around_motive (around_of around.old) (Ok (type_of self.now)) (option_copied value.entry)) }
+    {
+        enter_all(around, &self.indices)?;
+        around.enter(value)
+    }
 }
 
 /// A type with names for its indices.

@@ -9,7 +9,7 @@ ghost use Rattle.elab_parts.specs.Places.{place_of};
 ghost use Rattle.elab_parts.specs.calls.Parts.{known};
 ghost use Rattle.elab_parts.specs.calls.Readings.{Reads};
 ghost use Rattle.elab_matches.specs.Matches.{type_of, pattern_of};
-ghost use Rattle.elab_matches.specs.calls.Branches.{known_branch, branch_of, done_of, known_pattern_of, known_pattern};
+ghost use Rattle.elab_matches.specs.calls.Branches.{known_branch, branch_of, done_of, known_pattern_of, known_pattern, known_with_branch};
 
 use crate::arguments::names_at;
 use crate::branches::{Done, ReadBranch};
@@ -91,4 +91,16 @@ pub fn pattern_read<'b, 'a>(
 {
     let found = constructor_meant(place, around, constructor)?;
     pattern_of(text(constructor), ty, done, names, &found)
+}
+
+/// One branch more, of this pattern and with this body.
+pub fn add_branch(
+    done: &mut Done,
+    pattern: &Pattern<'_, '_>,
+    body: Option<Part>,
+) -> Result<(), NoMemory>
+    ensures { OnOk result (done_of done.new ≡ known_with_branch (done_of done.old) (pattern_of pattern.now) (known body)) }
+{
+    let branch = pattern.branch(body)?;
+    done.push(branch)
 }
