@@ -1,6 +1,6 @@
 -- The bodies of branches in a row.
-use Rattle.std.proofs.Common.{◌≡◌, ℕ, ◌+◌, List, [], ◌∷◌, ◌++◌, max, refl, ap, arith}
-use Rattle.cic_terms.specs.Tree.{Children, no_child, child, many, join}
+use Rattle.std.proofs.Common.{◌≡◌, List, [], ◌∷◌, ◌++◌, max, refl, ap, arith}
+use Rattle.cic_terms.specs.Tree.{no_child, child, many, join}
 use Rattle.cic_terms.specs.Denotes.{tree, branch_list}
 use Rattle.cic_terms.specs.Sizes.{depth_tree, depth_children, max_rel, max_rel_children}
 use Rattle.cic_terms.specs.declared.term.Branch.{Branch}

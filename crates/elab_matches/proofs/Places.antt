@@ -1,6 +1,6 @@
 -- What stands at places, and indices without names.
-use Rattle.std.proofs.Common.{◌≡◌, ℕ, zero, suc, ◌+◌, ◌-◌, ◌<◌, ◌≤◌, List, [], ◌∷◌, ◌++◌, map, length, take, drop, Bool, true, false, nat_eq, refl, sym, ap, ◌∙◌, eq-eqb, arith, Bor}
-use Rattle.std.specs.Prelude.{Option, Some, None, if◌then◌else◌, replicate, is_none, Ok, Err}
+use Rattle.std.proofs.Common.{◌≡◌, ℕ, zero, suc, ◌+◌, ◌-◌, List, [], ◌∷◌, ◌++◌, map, length, take, drop, Bool, true, false, nat_eq, refl, sym, ap, ◌∙◌, eq-eqb, arith, Bor}
+use Rattle.std.specs.Prelude.{Option, None, if◌then◌else◌, replicate, is_none, Ok, Err}
 use Rattle.std.specs.List.{list_all}
 use Rattle.std.specs.Option.{option_copied}
 use Rattle.std.proofs.lemmas.Bool.{ne_eqb}

@@ -2,7 +2,7 @@
 use Rattle.std.proofs.Common.{◌≡◌, ◌<◌, List, [], ◌∷◌, length, get_or, refl, sym, ap, ◌∙◌, arith}
 use Rattle.std.specs.Prelude.{Some, None}
 use Rattle.gal_grammar.specs.Terms as S
-use Rattle.gal_raw.specs.Denotes.{tree, qualified, binder, applied}
+use Rattle.gal_raw.specs.Denotes.{tree, qualified, applied}
 use Rattle.gal_raw.specs.calls.Lists.{branch_list}
 use Rattle.gal_raw.specs.declared.terms.Branch.{Branch}
 use Rattle.gal_raw.specs.declared.terms.Raw.{Raw}

@@ -1,6 +1,6 @@
 -- Where branches stand, and tables of it.
-use Rattle.std.proofs.Common.{◌≡◌, ℕ, zero, suc, ◌+◌, ◌<◌, ◌≤◌, List, [], ◌∷◌, ◌++◌, map, length, take, get_or, set, Bool, true, false, nat_eq, refl, sym, ap, ◌∙◌, eqb-true, get_or-set_same, get_or-set_other, arith}
-use Rattle.std.specs.Prelude.{Option, Some, None, if◌then◌else◌, slice_get, find, replicate}
+use Rattle.std.proofs.Common.{◌≡◌, ℕ, zero, suc, ◌<◌, List, [], ◌∷◌, ◌++◌, map, length, get_or, set, Bool, true, false, nat_eq, refl, sym, ap, ◌∙◌, eqb-true, get_or-set_same, get_or-set_other}
+use Rattle.std.specs.Prelude.{Option, Some, None, if◌then◌else◌, slice_get, replicate}
 use Rattle.std.specs.Option.{option_map, option_and_then}
 use Rattle.std.proofs.lemmas.Bool.{eqb-false}
 use Rattle.elab_matches.specs.declared.branches.ReadBranch.{ReadBranch}

@@ -3,10 +3,9 @@ use Rattle.std.proofs.Common.{◌≡◌, ℕ, ◌+◌, List, [], ◌∷◌, map,
 use Rattle.std.specs.Prelude.{Option, Some, None, is_none, find, nat_eq, if◌then◌else◌, ◌&&◌, Ok, Err}
 use Rattle.std.specs.Option.{option_map, option_and_then}
 use Rattle.std.proofs.lemmas.List.{map-append}
-use Rattle.cic_names.specs.declared.name.GlobalId.{GlobalId}
 use Rattle.cic_names.specs.Sameness.{same_id}
 use Rattle.cic_terms.specs.Tree.{Tree, Children, no_child, child, many, case}
-use Rattle.cic_terms.specs.Sizes.{Fits, ChildrenFit}
+use Rattle.cic_terms.specs.Sizes.{ChildrenFit}
 use Rattle.cic_rules.specs.Environment.{Constructor, ConstructorDeclaration}
 use Rattle.gal_grammar.specs.Terms.{Qual, Binder}
 use Rattle.gal_scoping.specs.Readings.{Reading, bad_pattern, after, with_part}
@@ -62,20 +61,25 @@ whole_is : (ks : Children) → (whole ks ≡ Some ks × ChildrenFit 4000 ks) ⊎
 unfolding whole
 whole_is no_child = inl (refl, record { depth = omega arith; rels = omega arith })
 whole_is (child b t ks) = elim (cut_is t) [
-    inl p ↦ elim (whole_is ks) [
-      inl q ↦ inl (rw (p.0, q.0) refl, record { depth = omega (arith, p.1.depth, q.1.depth); rels = omega (arith, p.1.rels, q.1.rels) })
-    | inr q ↦ inr (rw (p.0, q.0) refl, λ f. q.1 (record { depth = omega (arith, f.depth); rels = omega (arith, f.rels) })) ]
-  | inr p ↦ inr (rw p.0 refl, λ f. p.1 (record { depth = omega (arith, f.depth); rels = omega (arith, f.rels) })) ]
+  | inl p ↦ elim (whole_is ks) [
+    | inl q ↦ inl (rw (p.0, q.0) refl, record { depth = omega (arith, p.1.depth, q.1.depth); rels = omega (arith, p.1.rels, q.1.rels) })
+    | inr q ↦ inr (rw (p.0, q.0) refl, λ f. q.1 (record { depth = omega (arith, f.depth); rels = omega (arith, f.rels) }))
+  ]
+  | inr p ↦ inr (rw p.0 refl, λ f. p.1 (record { depth = omega (arith, f.depth); rels = omega (arith, f.rels) }))
+]
 
 case_cut : (type : MatchedType) (value motive : Tree) (ks : Children) →
     case_if type (cut value) (cut motive) (whole ks) ≡ cut (case type.id (length type.indices) motive value ks)
 case_cut type value motive ks = elim (cut_is value) [
-    inl p ↦ elim (cut_is motive) [
-      inl q ↦ elim (whole_is ks) [
-        inl r ↦ rw (p.0, q.0, r.0) refl
-      | inr r ↦ rw (p.0, q.0, r.0) (sym (cut_unfit all (λ f. r.1 (record { depth = omega (arith, f.depth); rels = omega (arith, f.rels) })))) ]
-    | inr q ↦ rw (p.0, q.0) (sym (cut_unfit all (λ f. q.1 (record { depth = omega (arith, f.depth); rels = omega (arith, f.rels) })))) ]
-  | inr p ↦ rw p.0 (sym (cut_unfit all (λ f. p.1 (record { depth = omega (arith, f.depth); rels = omega (arith, f.rels) })))) ]
+  | inl p ↦ elim (cut_is motive) [
+    | inl q ↦ elim (whole_is ks) [
+      | inl r ↦ rw (p.0, q.0, r.0) refl
+      | inr r ↦ rw (p.0, q.0, r.0) (sym (cut_unfit all (λ f. r.1 (record { depth = omega (arith, f.depth); rels = omega (arith, f.rels) }))))
+    ]
+    | inr q ↦ rw (p.0, q.0) (sym (cut_unfit all (λ f. q.1 (record { depth = omega (arith, f.depth); rels = omega (arith, f.rels) }))))
+  ]
+  | inr p ↦ rw p.0 (sym (cut_unfit all (λ f. p.1 (record { depth = omega (arith, f.depth); rels = omega (arith, f.rels) }))))
+]
   where
     all : Tree
     all = case type.id (length type.indices) motive value ks
@@ -91,9 +95,9 @@ same_part f g (Err e) h = refl
 
 onto : (name : List ℕ) (done : List ReadBranch) (place : ℕ) (cs : List ConstructorDeclaration) (F : Option Children → Option Tree) (found : Option ReadBranch) →
     ((F : Option Children → Option Tree) →
-      where_none (missing (map cut_branch done) (place + 1) cs) (F (known_in_order (map cut_branch done) (place + 1) (length cs))) ≡ with_part (λ ks. F (whole ks)) (in_order done (place + 1) cs)) →
+    where_none (missing (map cut_branch done) (place + 1) cs) (F (known_in_order (map cut_branch done) (place + 1) (length cs))) ≡ with_part (λ ks. F (whole ks)) (in_order done (place + 1) cs)) →
     where_none (if is_none (option_map cut_branch found) then Some name else missing (map cut_branch done) (place + 1) cs)
-      (F (onto_known (option_map cut_branch found) (known_in_order (map cut_branch done) (place + 1) (length cs))))
+    (F (onto_known (option_map cut_branch found) (known_in_order (map cut_branch done) (place + 1) (length cs))))
     ≡ with_part (λ ks. F (whole ks)) (onto_parts name found (in_order done (place + 1) cs))
 unfolding whole
 onto name done place cs F None h = refl
@@ -106,7 +110,7 @@ unfolding whole
 orders done place [] F = refl
 orders done place (c ∷ cs) F =
     ap (λ (o : Option KnownBranch). where_none (if is_none o then Some c.id.name else missing (map cut_branch done) (place + 1) cs)
-      (F (onto_known o (known_in_order (map cut_branch done) (place + 1) (length cs))))) (branch_cut done place)
+    (F (onto_known o (known_in_order (map cut_branch done) (place + 1) (length cs))))) (branch_cut done place)
     ∙ onto c.id.name done place cs F (find (has_place place) done) (orders done (place + 1) cs)
 
 -- The match of parts, each as far as it is within the limits, is the match as far as it is.

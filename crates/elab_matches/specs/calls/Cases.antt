@@ -1,5 +1,5 @@
 -- The term of a match, as far as its parts are within the limits.
-use Rattle.std.specs.Prelude.{ℕ, zero, suc, ◌+◌, List, [], ◌∷◌, map, length, Option, Some, None, is_none, Ok, Err, if◌then◌else◌}
+use Rattle.std.specs.Prelude.{ℕ, zero, suc, ◌+◌, List, [], ◌∷◌, length, Option, Some, None, is_none, Ok, Err, if◌then◌else◌}
 use Rattle.std.specs.Option.{option_map, option_and_then}
 use Rattle.cic_terms.specs.Tree.{Tree, Children, no_child, child, many, case}
 use Rattle.cic_terms.specs.Denotes.{branch_list}

@@ -1,6 +1,4 @@
-use Rattle.std.proofs.Common.{sym, ap, ◌∙◌, refl}
-use Rattle.std.specs.Prelude.{Some}
-use Rattle.gal_grammar.specs.Terms as S
+use Rattle.std.proofs.Common.{sym, ap, ◌∙◌}
 use Rattle.gal_scoping.specs.Matches.{first_pattern}
 use Rattle.elab_matches.proofs.Reading.{first_at}
 use Rattle.elab_matches.proofs.matched.first_pattern.Goals as goal

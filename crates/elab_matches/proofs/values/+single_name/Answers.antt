@@ -1,4 +1,4 @@
-use Rattle.std.proofs.Common.{sym, ap, ◌∙◌, length, eqb-true}
+use Rattle.std.proofs.Common.{sym, ap, ◌∙◌, eqb-true}
 use Rattle.std.specs.Prelude.{None}
 use Rattle.std.proofs.lemmas.Bool.{eqb-false}
 use Rattle.gal_raw.specs.Denotes.{tree}
