@@ -1,0 +1,6 @@
+pub mod Lists
+pub mod DeclarationBytes
+pub mod DeclarationReading
+pub mod Contents
+pub mod ContentsReading
+pub mod calls

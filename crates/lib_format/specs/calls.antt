@@ -1,0 +1,2 @@
+-- The laws, and what examples speak of.
+pub mod Examples

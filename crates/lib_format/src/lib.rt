@@ -1,0 +1,9 @@
+//! The bytes of declarations, summaries and interfaces in a library file: how each is spelled, which can be stored, and
+//! how bytes are read, with their first defect. Each public function has an empty body, and its contract is a law or an
+//! example.
+#![tactic(auto)]
+
+pub mod examples;
+mod stored;
+
+pub use stored::{Library, Need, NeedFlag, Recorded, Summary};
