@@ -1,0 +1,5 @@
+pub mod Behind
+pub mod ListLaws
+pub mod DeclarationLaws
+pub mod ContentsLaws
+pub mod Stated

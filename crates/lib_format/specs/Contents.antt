@@ -3,7 +3,7 @@
 --     summary   name of the library, digest of its source, budget, list of (name, digest) of the libraries loaded
 --     library   name of the library, list of (how, name) of the libraries required, list of the levels declared, list of
 --               declarations, list of constraints that everyone sees
-use Rattle.std.specs.Prelude.{ℕ, ◌≡◌, ◌<◌, ◌^◌, List, [], ◌∷◌, ◌++◌, length, map, false, All}
+use Rattle.std.specs.Prelude.{ℕ, ◌≡◌, ◌<◌, ◌^◌, List, [], ◌∷◌, ◌++◌, length, map, All}
 use Rattle.cic_names.specs.declared.constraint.Constraint.{Constraint}
 use Rattle.cic_names.specs.Orders.{digits, name_bytes}
 use Rattle.cic_rules.specs.Environment.{Declaration}
@@ -17,7 +17,7 @@ use Rattle.lib_format.specs.declared.stored.Recorded.{Recorded}
 use Rattle.lib_format.specs.declared.stored.Library.{Library}
 use Rattle.lib_format.specs.declared.stored.Summary.{Summary}
 use Rattle.lib_format.specs.Lists.{list_bytes, IsList}
-use Rattle.lib_format.specs.DeclarationBytes.{is_among, declarations_bytes, AreDeclarations}
+use Rattle.lib_format.specs.DeclarationBytes.{declarations_bytes, IsFresh, AreDeclarations}
 
 -- A digest has 16 bytes.
 abbrev pub IsDigest : List ℕ → Type 0
@@ -31,15 +31,24 @@ pub record IsRecorded (r : Recorded) : Type 0 where
   pub name : IsName r.lib
   pub digest : IsDigest r.digest
 
--- A summary.
-abbrev pub summary_bytes : Summary → List ℕ
-summary_bytes s = name_bytes s.name ++ (s.source ++ (digits s.budget ++ list_bytes (λ before r. recorded_bytes r) s.closure.items))
+-- What a summary holds.
+pub record SummaryContents : Type 0 where
+  pub name : List ℕ
+  pub source : List ℕ
+  pub budget : ℕ
+  pub closure : List Recorded
 
-pub record IsSummary (s : Summary) : Type 0 where
+abbrev pub summary_contents : Summary → SummaryContents
+summary_contents s = record { name = s.name; source = s.source; budget = s.budget; closure = s.closure.items }
+
+abbrev pub summary_bytes : SummaryContents → List ℕ
+summary_bytes s = name_bytes s.name ++ (s.source ++ (digits s.budget ++ list_bytes (λ before r. recorded_bytes r) s.closure))
+
+pub record IsSummary (s : SummaryContents) : Type 0 where
   pub name : IsName s.name
   pub source : IsDigest s.source
   pub budget : s.budget < 2 ^ 32
-  pub closure : IsList (λ before r. IsRecorded r) s.closure.items
+  pub closure : IsList (λ before r. IsRecorded r) s.closure
 
 -- How a library is required, and the library.
 abbrev pub flag_byte : NeedFlag → ℕ
@@ -53,21 +62,16 @@ need_bytes n = flag_byte n.flag ∷ name_bytes n.lib
 abbrev pub IsNeed : Need → Type 0
 IsNeed n = IsName n.lib
 
--- The name of a declared level, which no level before it has.
-pub record IsLevelOf (before : List (List ℕ)) (level : List ℕ) : Type 0 where
-  pub name : IsName level
-  pub fresh : is_among before level ≡ false
-
--- What a library segment holds.
-pub record Contents : Type 0 where
+-- What a library segment holds. The levels have different names.
+pub record LibraryContents : Type 0 where
   pub name : List ℕ
   pub needs : List Need
   pub levels : List (List ℕ)
   pub declarations : List Declaration
   pub visible : List Constraint
 
-abbrev pub contents : Library → Contents
-contents l = record {
+abbrev pub library_contents : Library → LibraryContents
+library_contents l = record {
   name = l.name;
   needs = l.needs.items;
   levels = l.levels.items;
@@ -75,14 +79,14 @@ contents l = record {
   visible = l.visible;
 }
 
-abbrev pub contents_bytes : Contents → List ℕ
-contents_bytes c =
+abbrev pub library_bytes : LibraryContents → List ℕ
+library_bytes c =
     name_bytes c.name ++ (list_bytes (λ before n. need_bytes n) c.needs ++ (list_bytes (λ before l. name_bytes l) c.levels
     ++ (declarations_bytes c.declarations ++ constraints_bytes c.visible)))
 
-pub record IsLibrary (c : Contents) : Type 0 where
+pub record IsLibrary (c : LibraryContents) : Type 0 where
   pub name : IsName c.name
   pub needs : IsList (λ before n. IsNeed n) c.needs
-  pub levels : IsList IsLevelOf c.levels
+  pub levels : IsList IsFresh c.levels
   pub declarations : AreDeclarations c.name c.declarations
   pub visible : AreStorable c.visible

@@ -9,7 +9,7 @@ use Rattle.lib_format.specs.declared.stored.Need.{Need}
 use Rattle.lib_format.specs.declared.stored.Recorded.{Recorded}
 use Rattle.lib_format.specs.Lists.{read_list}
 use Rattle.lib_format.specs.DeclarationReading.{read_new_name, read_declarations}
-use Rattle.lib_format.specs.Contents.{Contents}
+use Rattle.lib_format.specs.Contents.{SummaryContents, LibraryContents}
 
 -- A digest.
 unfoldable pub read_digest : List ℕ → Reading (List ℕ)
@@ -38,14 +38,8 @@ read_recorded bytes =
     and_then (read_digest rest) (λ digest rest.
     value (record { lib = lib; digest = digest }) rest))
 
--- What a summary holds.
-pub record Summarised : Type 0 where
-  pub name : List ℕ
-  pub source : List ℕ
-  pub budget : ℕ
-  pub closure : List Recorded
-
-unfoldable pub read_summary : List ℕ → Reading Summarised
+-- A summary.
+unfoldable pub read_summary : List ℕ → Reading SummaryContents
 read_summary bytes =
     and_then (read_name bytes) (λ name rest.
     and_then (read_digest rest) (λ source rest.
@@ -54,7 +48,7 @@ read_summary bytes =
     value (record { name = name; source = source; budget = budget; closure = closure }) rest))))
 
 -- A library segment. The names of its declarations are names of the library.
-unfoldable pub read_library : List ℕ → Reading Contents
+unfoldable pub read_library : List ℕ → Reading LibraryContents
 read_library bytes =
     and_then (read_name bytes) (λ name rest.
     and_then (read_list (λ before. read_need) rest) (λ needs rest.

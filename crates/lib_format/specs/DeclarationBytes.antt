@@ -69,24 +69,28 @@ declaration_bytes index (inductive b) = 4 ∷ (digits b.parameters ++ list_bytes
 abbrev pub declarations_bytes : List Declaration → List ℕ
 declarations_bytes = list_bytes (λ before d. declaration_bytes (opaques_of before) d)
 
--- A name of the library that is not among those seen.
+-- A name that is not among those seen.
+pub record IsFresh (seen : List (List ℕ)) (name : List ℕ) : Type 0 where
+  pub name_is : IsName name
+  pub unseen : is_among seen name ≡ false
+
+-- Such a name of the library.
 pub record IsNew (library : List ℕ) (seen : List (List ℕ)) (id : GlobalId) : Type 0 where
   pub own : id.lib ≡ library
-  pub name : IsName id.name
-  pub fresh : is_among seen id.name ≡ false
+  pub fresh : IsFresh seen id.name
 
 pub record IsConstructor (library : List ℕ) (seen : List (List ℕ)) (c : ConstructorDeclaration) : Type 0 where
   pub new : IsNew library seen c.id
   pub type : IsStorable c.type
 
--- The names seen before a constructor of a type: those before the type, its own, and those of the constructors before.
-abbrev pub with_constructors : (seen : List (List ℕ)) → (id : GlobalId) → List ConstructorDeclaration → List (List ℕ)
-with_constructors seen id cs = seen ++ (id.name ∷ constructor_names cs)
+-- The constructors of a type, behind the names seen, its own among them.
+abbrev pub AreConstructors : (library : List ℕ) → (seen : List (List ℕ)) → List ConstructorDeclaration → Type 0
+AreConstructors library seen = IsList (λ before c. IsConstructor library (seen ++ constructor_names before) c)
 
 pub record IsInductiveType (library : List ℕ) (seen : List (List ℕ)) (t : TypeDeclaration) : Type 0 where
   pub new : IsNew library seen t.id
   pub arity : IsStorable t.arity
-  pub constructors : IsList (λ before c. IsConstructor library (with_constructors seen t.id before) c) t.constructors
+  pub constructors : AreConstructors library (seen ++ t.id.name ∷ []) t.constructors
 
 -- Inductive types: at least one.
 pub record IsBlock (library : List ℕ) (seen : List (List ℕ)) (b : Block) : Type 0 where

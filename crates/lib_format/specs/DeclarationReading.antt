@@ -8,7 +8,7 @@ use Rattle.term_format.specs.Storable.{most_number}
 use Rattle.term_format.specs.Reading.{Reading, value, wrong, and_then, if_right, read_byte, read_number, read_limited, read_name}
 use Rattle.term_format.specs.TermReading.{read_whole_term}
 use Rattle.lib_format.specs.Lists.{read_list, read_some}
-use Rattle.lib_format.specs.DeclarationBytes.{is_among, with_constructors, block_names, all_names, opaques_of}
+use Rattle.lib_format.specs.DeclarationBytes.{is_among, constructor_names, block_names, all_names, opaques_of}
 
 -- A name that is not among those seen.
 unfoldable pub read_new_name : (seen : List (List ℕ)) → List ℕ → Reading (List ℕ)
@@ -26,15 +26,14 @@ read_constructor library seen bytes =
     and_then (read_whole_term rest) (λ type rest.
     value (record { id = id; type = type }) rest))
 
--- The constructors of a type of this name.
-abbrev pub read_constructors : (library : List ℕ) → (seen : List (List ℕ)) → GlobalId → List ℕ → Reading (List ConstructorDeclaration)
-read_constructors library seen id = read_list (λ before. read_constructor library (with_constructors seen id before))
+abbrev pub read_constructors : (library : List ℕ) → (seen : List (List ℕ)) → List ℕ → Reading (List ConstructorDeclaration)
+read_constructors library seen = read_list (λ before. read_constructor library (seen ++ constructor_names before))
 
 unfoldable pub read_inductive_type : (library : List ℕ) → (seen : List (List ℕ)) → List ℕ → Reading TypeDeclaration
 read_inductive_type library seen bytes =
     and_then (read_new library seen bytes) (λ id rest.
     and_then (read_whole_term rest) (λ arity rest.
-    and_then (read_constructors library seen id rest) (λ constructors rest.
+    and_then (read_constructors library (seen ++ id.name ∷ []) rest) (λ constructors rest.
     value (record { id = id; arity = arity; constructors = constructors }) rest)))
 
 abbrev pub read_inductive_types : (library : List ℕ) → (seen : List (List ℕ)) → List ℕ → Reading (List TypeDeclaration)

@@ -6,7 +6,7 @@ ghost use Rattle.std.specs.Prelude.{◌≡◌, [], ◌∷◌, ◌++◌, codes, N
 ghost use Rattle.cic_terms.specs.Tree.{sort, prop, set};
 ghost use Rattle.cic_rules.specs.Environment.{axiom_of, transparent, opaque, inductive};
 ghost use Rattle.lib_format.specs.DeclarationBytes.{declaration_bytes, declarations_bytes, IsDeclaration};
-ghost use Rattle.lib_format.specs.Contents.{contents_bytes};
+ghost use Rattle.lib_format.specs.Contents.{library_bytes};
 ghost use Rattle.lib_format.specs.declared.stored.NeedFlag.TheVariants.{Plain, Export};
 ghost use Rattle.lib_format.specs.calls.Examples.{of_A, numbers, numbers_with, requiring, need_of, zeros};
 
@@ -22,6 +22,6 @@ pub fn declarations()
 
 /// Libraries without declarations.
 pub fn libraries()
-    ensures empty { contents_bytes (requiring []) ≡ (1 ∷ 65 ∷ []) ++ zeros ++ zeros ++ zeros ++ zeros }
-    ensures requires_two { contents_bytes (requiring (need_of Plain (codes "B") ∷ need_of Export (codes "C") ∷ [])) ≡ (1 ∷ 65 ∷ 0 ∷ 0 ∷ 0 ∷ 2 ∷ 0 ∷ 1 ∷ 66 ∷ 2 ∷ 1 ∷ 67 ∷ []) ++ zeros ++ zeros ++ zeros }
+    ensures empty { library_bytes (requiring []) ≡ (1 ∷ 65 ∷ []) ++ zeros ++ zeros ++ zeros ++ zeros }
+    ensures requires_two { library_bytes (requiring (need_of Plain (codes "B") ∷ need_of Export (codes "C") ∷ [])) ≡ (1 ∷ 65 ∷ 0 ∷ 0 ∷ 0 ∷ 2 ∷ 0 ∷ 1 ∷ 66 ∷ 2 ∷ 1 ∷ 67 ∷ []) ++ zeros ++ zeros ++ zeros }
 {}

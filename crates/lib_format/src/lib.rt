@@ -4,6 +4,7 @@
 #![tactic(auto)]
 
 pub mod examples;
+pub mod laws;
 mod stored;
 
 pub use stored::{Library, Need, NeedFlag, Recorded, Summary};

@@ -5,7 +5,7 @@ use Rattle.cic_terms.specs.Tree.{Tree, set, sort, prod, ind}
 use Rattle.cic_rules.specs.Environment.{ConstructorDeclaration, TypeDeclaration, Block}
 use Rattle.lib_format.specs.declared.stored.NeedFlag.{NeedFlag}
 use Rattle.lib_format.specs.declared.stored.Need.{Need}
-use Rattle.lib_format.specs.Contents.{Contents}
+use Rattle.lib_format.specs.Contents.{LibraryContents}
 
 -- An id of the library `A`.
 abbrev pub of_A : List ℕ → GlobalId
@@ -35,7 +35,7 @@ numbers_with name =
     ++ type_n ++ (1 ∷ name ∷ 4 ∷ []) ++ type_n ++ type_n
 
 -- The library `A` that requires these, and has nothing else.
-abbrev pub requiring : List Need → Contents
+abbrev pub requiring : List Need → LibraryContents
 requiring needs = record { name = codes "A"; needs = needs; levels = []; declarations = []; visible = [] }
 
 abbrev pub need_of : NeedFlag → List ℕ → Need

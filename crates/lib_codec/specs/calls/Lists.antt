@@ -1,0 +1,17 @@
+-- What lists of the program stand for.
+use Rattle.std.specs.Prelude.{List, map, Vec}
+use Rattle.std.specs.declared.alloc.Global.{Global}
+use Rattle.cic_rules.specs.Environment.{ConstructorDeclaration, TypeDeclaration, Declaration}
+use Rattle.cic_env.specs.Declarations.{declaration, type_declaration, constructor_declaration}
+use Rattle.cic_env.specs.declared.declaration.CtorDecl.{CtorDecl}
+use Rattle.cic_env.specs.declared.declaration.IndType.{IndType}
+use Rattle.cic_env.specs.declared.declaration.Decl.{Decl}
+
+abbrev pub constructors_of : Vec CtorDecl Global → List ConstructorDeclaration
+constructors_of cs = map constructor_declaration cs.items
+
+abbrev pub types_of : Vec IndType Global → List TypeDeclaration
+types_of ts = map type_declaration ts.items
+
+abbrev pub declarations_of : Vec Decl Global → List Declaration
+declarations_of ds = map declaration ds.items
