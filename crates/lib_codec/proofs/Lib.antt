@@ -1,1 +1,5 @@
 pub mod ReadItems
+pub mod WrittenItems
+pub mod Writable
+pub mod Stored
+pub mod Digests

@@ -1,6 +1,15 @@
 //! Declarations, interfaces and summaries of libraries as the bytes of a library file, and back.
 #![tactic(auto)]
 
-mod names;
 mod declarations;
+mod decoding;
+mod encoding;
+mod interfaces;
+mod names;
+mod summaries;
 mod writing;
+
+pub use decoding::{decode_library, decode_summary};
+pub use encoding::{encode_library, encode_summary};
+pub use lib_format::{Library, Need, NeedFlag, Recorded, Summary};
+pub use term_codec::{Bytes, DecodeFault};

@@ -3,11 +3,11 @@ ghost use Rattle.std.specs.Prelude.{◌≡◌, ◌++◌, ◌<◌, ◌^◌, OnOk,
 ghost use Rattle.std.specs.List.{AllByRecursion};
 ghost use Rattle.cic_terms.specs.Denotes.{tree};
 ghost use Rattle.cic_env.specs.Declarations.{declaration, type_declaration, constructor_declaration, block};
-ghost use Rattle.cic_names.specs.Orders.{digits};
+ghost use Rattle.cic_rules.specs.Environment.{inductive};
 ghost use Rattle.term_format.specs.Storable.{HasRow};
 ghost use Rattle.lib_format.specs.Lists.{list_bytes};
 ghost use Rattle.lib_format.specs.DeclarationBytes.{declaration_bytes, declarations_bytes, type_bytes, constructor_bytes};
-ghost use Rattle.lib_codec.specs.calls.Writing.{TypeCanBeWritten, BlockCanBeWritten, CanBeWritten, ConstructorCanBeWritten};
+ghost use Rattle.lib_codec.specs.calls.Writing.{TypeCanBeWritten, BlockCanBeWritten, CanBeWritten, ConstructorCanBeWritten, constant_bytes};
 
 use crate::declarations::opaque_count;
 use cic_env::{Block, CtorDecl, Decl, IndType};
@@ -66,8 +66,6 @@ fn put_constant(bytes: &mut Bytes, kind: u8, name: &Name, ty: &Term) -> Result<(
     put_term(bytes, ty)
 }
 
-ghost use Rattle.lib_codec.specs.calls.Writing.{constant_bytes};
-
 fn put_block(bytes: &mut Bytes, b: &Block) -> Result<(), NoMemory>
     requires { BlockCanBeWritten (block b.now) }
     ensures { OnOk result (bytes.new.items ≡ bytes.old.items ++ declaration_bytes 0 (inductive (block b.now))) }
@@ -76,8 +74,6 @@ fn put_block(bytes: &mut Bytes, b: &Block) -> Result<(), NoMemory>
     put_number(bytes, b.params)?;
     put_types(bytes, b.types.as_slice())
 }
-
-ghost use Rattle.cic_rules.specs.Environment.{inductive};
 
 /// A declaration behind `index` constants that do not unfold.
 fn put_declaration(bytes: &mut Bytes, index: u32, decl: &Decl) -> Result<(), NoMemory>

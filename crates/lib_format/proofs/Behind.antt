@@ -1,5 +1,5 @@
 -- What lists of declarations declare, with one more behind them.
-use Rattle.std.proofs.Common.{◌≡◌, ℕ, ◌+◌, List, [], ◌∷◌, ◌++◌, refl, ap, sym, ◌∙◌, arith, append_assoc, append-nil}
+use Rattle.std.proofs.Common.{◌≡◌, ◌+◌, List, [], ◌∷◌, ◌++◌, refl, ap, sym, ◌∙◌, arith, append_assoc, append-nil}
 use Rattle.std.specs.Prelude.{map}
 use Rattle.cic_rules.specs.Environment.{ConstructorDeclaration, TypeDeclaration, Declaration}
 use Rattle.lib_format.specs.DeclarationBytes.{constructor_names, type_names, block_names, declared_names, all_names, opaque_count, opaques_of}

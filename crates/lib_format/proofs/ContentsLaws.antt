@@ -1,14 +1,13 @@
 -- Summaries and library segments: what is spelled is read, and what is read was spelled.
-use Rattle.std.proofs.Common.{◌≡◌, ℕ, suc, zero, ◌<◌, ◌^◌, List, [], ◌∷◌, ◌++◌, length, take, drop, Bool, true, false, refl, ap, sym, ◌∙◌, subst, append_assoc, arith, length-append}
+use Rattle.std.proofs.Common.{◌≡◌, ℕ, suc, zero, ◌<◌, List, [], ◌∷◌, ◌++◌, length, take, drop, Bool, true, false, refl, sym, append_assoc, arith, length-append}
 use Rattle.std.specs.Prelude.{◌==◌, if◌then◌else◌, nat_lt, All}
 use Rattle.std.proofs.lemmas.List.{take-append-drop, length-take-le, take_at, drop_at}
 use Rattle.std.proofs.lemmas.Bool.{eqb-true, lt-leb, ltb-false}
 use Rattle.cic_names.specs.Orders.{digits, name_bytes}
 use Rattle.seg_format.specs.declared.faults.Defect.TheVariants.{Short}
 use Rattle.term_format.specs.Spelling.{constraints_bytes}
-use Rattle.term_format.specs.Storable.{IsName, AreStorable}
-use Rattle.term_format.specs.Reading.{Reading, value, wrong, and_then, read_number}
-use Rattle.term_format.proofs.Bytes.{AreBytes, drop_are_bytes, Spelled, follows, same_of, moved, both, so, nothing, after_byte, case_on}
+use Rattle.term_format.specs.Reading.{value, wrong}
+use Rattle.term_format.proofs.Bytes.{AreBytes, drop_are_bytes, Spelled, follows, same_of, moved, both, nothing, after_byte, case_on}
 use Rattle.term_format.proofs.NameLaws.{number_read, number_spelled, name_read, name_spelled}
 use Rattle.term_format.proofs.ConstraintLaws.{constraints_read, constraints_spelled}
 use Rattle.lib_format.specs.declared.stored.NeedFlag.{NeedFlag}
@@ -16,8 +15,8 @@ use Rattle.lib_format.specs.declared.stored.NeedFlag.TheVariants.{Plain, Import,
 use Rattle.lib_format.specs.declared.stored.Need.{Need}
 use Rattle.lib_format.specs.declared.stored.Recorded.{Recorded}
 use Rattle.lib_format.specs.Lists.{list_bytes, IsList, read_list}
-use Rattle.lib_format.specs.DeclarationBytes.{declarations_bytes, IsFresh, AreDeclarations}
-use Rattle.lib_format.specs.DeclarationReading.{read_new_name, read_declarations}
+use Rattle.lib_format.specs.DeclarationBytes.{declarations_bytes, IsFresh}
+use Rattle.lib_format.specs.DeclarationReading.{read_new_name}
 use Rattle.lib_format.specs.Contents.{IsDigest, recorded_bytes, IsRecorded, SummaryContents, summary_bytes, IsSummary, flag_byte, need_bytes, IsNeed, LibraryContents, library_bytes, IsLibrary}
 use Rattle.lib_format.specs.ContentsReading.{read_digest, read_flag, read_need, read_recorded, read_summary, read_library}
 use Rattle.lib_format.proofs.ListLaws.{list_read, list_spelled, four, five}

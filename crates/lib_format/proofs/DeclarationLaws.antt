@@ -1,21 +1,21 @@
 -- Declarations: what is spelled is read, and what is read was spelled.
 use Rattle.std.proofs.Common.{◌≡◌, ℕ, ◌<◌, ◌^◌, List, [], ◌∷◌, ◌++◌, length, Bool, true, false, refl, ap, sym, ◌∙◌, subst, append_assoc, arith}
-use Rattle.std.specs.Prelude.{◌==◌, if◌then◌else◌, not, Option, None, Some}
+use Rattle.std.specs.Prelude.{◌==◌, not, None, Some}
 use Rattle.std.proofs.lemmas.Bool.{eqb-true, eq-eqb}
 use Rattle.cic_names.specs.declared.name.GlobalId.{GlobalId}
 use Rattle.cic_names.specs.Orders.{digits, name_bytes}
 use Rattle.cic_rules.specs.Environment.{ConstructorDeclaration, TypeDeclaration, Block, Declaration, axiom_of, transparent, opaque, inductive}
 use Rattle.cic_terms.specs.Tree.{Tree}
 use Rattle.term_format.specs.Spelling.{term_bytes}
-use Rattle.term_format.specs.Storable.{IsName, IsStorable, most_number, most_levels}
-use Rattle.term_format.specs.Reading.{Reading, value, wrong, and_then, read_number, read_limited}
+use Rattle.term_format.specs.Storable.{IsStorable, most_number, most_levels}
+use Rattle.term_format.specs.Reading.{value, read_limited}
 use Rattle.term_format.specs.TermReading.{read_whole_term}
 use Rattle.term_format.proofs.Bytes.{AreBytes, Spelled, follows, right_of, same_of, moved, both, so, after_byte, case_on}
 use Rattle.term_format.proofs.NameLaws.{number_read, number_spelled, limited_read, limited_spelled, name_read, name_spelled}
 use Rattle.term_format.proofs.Stated.{storable_read}
 use Rattle.term_format.proofs.TermsSpelled.{term_spelled}
 use Rattle.lib_format.specs.Lists.{list_bytes, IsList}
-use Rattle.lib_format.specs.DeclarationBytes.{is_among, constructor_names, block_names, all_names, opaques_of, constructor_bytes, type_bytes, declaration_bytes, declarations_bytes, IsFresh, IsNew, IsConstructor, AreConstructors, IsInductiveType, IsBlock, IsDeclaration, AreDeclarations}
+use Rattle.lib_format.specs.DeclarationBytes.{constructor_names, block_names, all_names, opaques_of, constructor_bytes, type_bytes, declaration_bytes, declarations_bytes, IsFresh, IsNew, IsConstructor, AreConstructors, IsInductiveType, IsBlock, IsDeclaration, AreDeclarations}
 use Rattle.lib_format.specs.DeclarationReading.{read_new_name, read_new, read_constructor, read_constructors, read_inductive_type, read_inductive_types, read_axiom, read_transparent, read_place, read_opaque, read_block, kind_of, read_declaration, read_declarations}
 use Rattle.lib_format.proofs.ListLaws.{list_read, some_read, list_spelled, some_spelled, three}
 

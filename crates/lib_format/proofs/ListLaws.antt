@@ -1,6 +1,6 @@
 -- Lists: what is spelled is read, and what is read was spelled, where that holds of each item.
 use Rattle.std.proofs.Common.{◌≡◌, ℕ, zero, suc, ◌<◌, ◌^◌, List, [], ◌∷◌, ◌++◌, length, refl, ap, sym, ◌∙◌, subst, append_assoc, append-nil}
-use Rattle.std.specs.Prelude.{nat_lt, true}
+use Rattle.std.specs.Prelude.{nat_lt}
 use Rattle.std.proofs.lemmas.Bool.{le-leb, leb-true}
 use Rattle.cic_names.specs.Orders.{digits}
 use Rattle.seg_format.specs.declared.faults.Defect.TheVariants.{Number}

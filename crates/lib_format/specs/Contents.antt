@@ -3,7 +3,7 @@
 --     summary   name of the library, digest of its source, budget, list of (name, digest) of the libraries loaded
 --     library   name of the library, list of (how, name) of the libraries required, list of the levels declared, list of
 --               declarations, list of constraints that everyone sees
-use Rattle.std.specs.Prelude.{ℕ, ◌≡◌, ◌<◌, ◌^◌, List, [], ◌∷◌, ◌++◌, length, map, All}
+use Rattle.std.specs.Prelude.{ℕ, ◌≡◌, ◌<◌, ◌^◌, List, ◌∷◌, ◌++◌, length, map, All}
 use Rattle.cic_names.specs.declared.constraint.Constraint.{Constraint}
 use Rattle.cic_names.specs.Orders.{digits, name_bytes}
 use Rattle.cic_rules.specs.Environment.{Declaration}

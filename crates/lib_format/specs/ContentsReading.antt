@@ -1,5 +1,5 @@
 -- Reading summaries and library segments.
-use Rattle.std.specs.Prelude.{ℕ, ◌==◌, List, [], ◌∷◌, length, take, drop, nat_lt, if◌then◌else◌}
+use Rattle.std.specs.Prelude.{ℕ, ◌==◌, List, length, take, drop, nat_lt, if◌then◌else◌}
 use Rattle.seg_format.specs.declared.faults.Defect.TheVariants.{Short, Tag}
 use Rattle.term_format.specs.Reading.{Reading, value, wrong, and_then, read_byte, read_number, read_name}
 use Rattle.term_format.specs.ConstraintReading.{read_constraints}
@@ -38,21 +38,31 @@ read_recorded bytes =
     and_then (read_digest rest) (λ digest rest.
     value (record { lib = lib; digest = digest }) rest))
 
+abbrev pub read_closure : List ℕ → Reading (List Recorded)
+read_closure = read_list (λ before. read_recorded)
+
 -- A summary.
 unfoldable pub read_summary : List ℕ → Reading SummaryContents
 read_summary bytes =
     and_then (read_name bytes) (λ name rest.
     and_then (read_digest rest) (λ source rest.
     and_then (read_number rest) (λ budget rest.
-    and_then (read_list (λ before. read_recorded) rest) (λ closure rest.
+    and_then (read_closure rest) (λ closure rest.
     value (record { name = name; source = source; budget = budget; closure = closure }) rest))))
+
+abbrev pub read_needs : List ℕ → Reading (List Need)
+read_needs = read_list (λ before. read_need)
+
+-- The names of the levels differ.
+abbrev pub read_levels : List ℕ → Reading (List (List ℕ))
+read_levels = read_list read_new_name
 
 -- A library segment. The names of its declarations are names of the library.
 unfoldable pub read_library : List ℕ → Reading LibraryContents
 read_library bytes =
     and_then (read_name bytes) (λ name rest.
-    and_then (read_list (λ before. read_need) rest) (λ needs rest.
-    and_then (read_list read_new_name rest) (λ levels rest.
+    and_then (read_needs rest) (λ needs rest.
+    and_then (read_levels rest) (λ levels rest.
     and_then (read_declarations name rest) (λ declarations rest.
     and_then (read_constraints rest) (λ visible rest.
     value (record { name = name; needs = needs; levels = levels; declarations = declarations; visible = visible }) rest)))))

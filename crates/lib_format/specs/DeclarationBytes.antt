@@ -7,7 +7,7 @@
 --     4   inductive types: number of parameters, list of (name, arity, list of (name, type))
 --
 -- Names stand without the library's, which is the same for all of them. No two names of a library are the same.
-use Rattle.std.specs.Prelude.{ℕ, ◌≡◌, ◌+◌, ◌<◌, ◌≤◌, ◌^◌, List, [], ◌∷◌, ◌++◌, length, map, Option, None, Some, Bool, false}
+use Rattle.std.specs.Prelude.{ℕ, ◌≡◌, ◌+◌, ◌<◌, ◌≤◌, ◌^◌, List, [], ◌∷◌, ◌++◌, length, map, None, Some, Bool, false}
 use Rattle.std.specs.List.{list_any}
 use Rattle.cic_names.specs.declared.name.GlobalId.{GlobalId}
 use Rattle.cic_names.specs.Orders.{digits, name_bytes}

@@ -1,5 +1,5 @@
 -- Reading declarations of a library, behind those that declare the names seen.
-use Rattle.std.specs.Prelude.{ℕ, ◌==◌, List, [], ◌∷◌, ◌++◌, length, if◌then◌else◌, not, Option, None}
+use Rattle.std.specs.Prelude.{ℕ, ◌==◌, List, [], ◌∷◌, ◌++◌, length, if◌then◌else◌, not, None}
 use Rattle.cic_names.specs.declared.name.GlobalId.{GlobalId}
 use Rattle.cic_rules.specs.Environment.{ConstructorDeclaration, TypeDeclaration, Declaration, axiom_of, transparent, opaque, inductive}
 use Rattle.seg_format.specs.declared.faults.Defect.TheVariants.{Tag, Number}
@@ -26,8 +26,12 @@ read_constructor library seen bytes =
     and_then (read_whole_term rest) (λ type rest.
     value (record { id = id; type = type }) rest))
 
+-- The constructors of a type, each behind those before.
+abbrev pub next_constructor : (library : List ℕ) → (seen : List (List ℕ)) → (before : List ConstructorDeclaration) → List ℕ → Reading ConstructorDeclaration
+next_constructor library seen before = read_constructor library (seen ++ constructor_names before)
+
 abbrev pub read_constructors : (library : List ℕ) → (seen : List (List ℕ)) → List ℕ → Reading (List ConstructorDeclaration)
-read_constructors library seen = read_list (λ before. read_constructor library (seen ++ constructor_names before))
+read_constructors library seen = read_list (next_constructor library seen)
 
 unfoldable pub read_inductive_type : (library : List ℕ) → (seen : List (List ℕ)) → List ℕ → Reading TypeDeclaration
 read_inductive_type library seen bytes =
@@ -36,8 +40,12 @@ read_inductive_type library seen bytes =
     and_then (read_constructors library (seen ++ id.name ∷ []) rest) (λ constructors rest.
     value (record { id = id; arity = arity; constructors = constructors }) rest)))
 
+-- The types of a block, each behind those before.
+abbrev pub next_type : (library : List ℕ) → (seen : List (List ℕ)) → (before : List TypeDeclaration) → List ℕ → Reading TypeDeclaration
+next_type library seen before = read_inductive_type library (seen ++ block_names before)
+
 abbrev pub read_inductive_types : (library : List ℕ) → (seen : List (List ℕ)) → List ℕ → Reading (List TypeDeclaration)
-read_inductive_types library seen = read_some (λ before. read_inductive_type library (seen ++ block_names before))
+read_inductive_types library seen = read_some (next_type library seen)
 
 -- The kinds of declarations, after the byte of the kind.
 unfoldable pub read_axiom : (library : List ℕ) → (seen : List (List ℕ)) → List ℕ → Reading Declaration
@@ -83,6 +91,9 @@ kind_of library seen index bytes tag rest =
 unfoldable pub read_declaration : (library : List ℕ) → (seen : List (List ℕ)) → (index : ℕ) → List ℕ → Reading Declaration
 read_declaration library seen index bytes = and_then (read_byte bytes) (kind_of library seen index bytes)
 
--- Declarations in order.
+-- Declarations in order, each behind those before.
+abbrev pub next_declaration : (library : List ℕ) → (before : List Declaration) → List ℕ → Reading Declaration
+next_declaration library before = read_declaration library (all_names before) (opaques_of before)
+
 abbrev pub read_declarations : (library : List ℕ) → List ℕ → Reading (List Declaration)
-read_declarations library = read_list (λ before. read_declaration library (all_names before) (opaques_of before))
+read_declarations library = read_list (next_declaration library)

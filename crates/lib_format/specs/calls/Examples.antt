@@ -2,7 +2,7 @@
 use Rattle.std.specs.Prelude.{ℕ, List, [], ◌∷◌, ◌++◌, codes}
 use Rattle.cic_names.specs.declared.name.GlobalId.{GlobalId}
 use Rattle.cic_terms.specs.Tree.{Tree, set, sort, prod, ind}
-use Rattle.cic_rules.specs.Environment.{ConstructorDeclaration, TypeDeclaration, Block}
+use Rattle.cic_rules.specs.Environment.{Block}
 use Rattle.lib_format.specs.declared.stored.NeedFlag.{NeedFlag}
 use Rattle.lib_format.specs.declared.stored.Need.{Need}
 use Rattle.lib_format.specs.Contents.{LibraryContents}
