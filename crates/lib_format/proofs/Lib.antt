@@ -3,3 +3,4 @@ pub mod ListLaws
 pub mod DeclarationLaws
 pub mod ContentsLaws
 pub mod Stated
+pub mod Shown
