@@ -3,3 +3,4 @@ pub mod WrittenItems
 pub mod Writable
 pub mod Stored
 pub mod Digests
+pub mod Heads

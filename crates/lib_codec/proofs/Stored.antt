@@ -6,7 +6,7 @@ use Rattle.lib_format.specs.Contents.{SummaryContents, IsSummary, LibraryContent
 use Rattle.lib_format.specs.ContentsReading.{read_summary, read_library}
 use Rattle.lib_format.proofs.ContentsLaws.{summary_spelled, library_spelled}
 
-bytes_of : (bs : List ℕ) → ((i : ℕ) → get_or bs i 0 < 256) → AreBytes bs
+pub bytes_of : (bs : List ℕ) → ((i : ℕ) → get_or bs i 0 < 256) → AreBytes bs
 bytes_of [] h = tt
 bytes_of (b ∷ bs) h = (h 0, bytes_of bs (λ i. h (suc i)))
 

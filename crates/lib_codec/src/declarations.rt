@@ -174,7 +174,7 @@ fn read_transparent(
 
 /// The place of an opaque body, which counts those before it.
 #[tactic(auto, unfolding(lib_format::specs::DeclarationReading::read_place))]
-fn read_place(b: &[u8], place: &mut usize, index: usize) -> Result<u32, Stop>
+pub(crate) fn read_place(b: &[u8], place: &mut usize, index: usize) -> Result<u32, Stop>
     requires { place.old ≤ length b.now }
     ensures { Reads (λ v. v) b.now (read_place index (drop place.old b.now)) place.new result }
 {

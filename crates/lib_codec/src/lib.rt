@@ -6,10 +6,11 @@ mod decoding;
 mod encoding;
 mod interfaces;
 mod names;
+mod opaques;
 mod summaries;
 mod writing;
 
-pub use decoding::{decode_library, decode_summary};
+pub use decoding::{decode_library, decode_opaque_head, decode_summary};
 pub use encoding::{encode_library, encode_summary};
-pub use lib_format::{Library, Need, NeedFlag, Recorded, Summary};
+pub use lib_format::{Library, Need, NeedFlag, OpaqueRow, Recorded, Summary};
 pub use term_codec::{Bytes, DecodeFault};

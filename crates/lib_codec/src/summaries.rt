@@ -13,7 +13,7 @@ use std::alloc::Global;
 use term_codec::{Stop, number_at, put_name, put_number, read_name};
 
 #[tactic(auto, using(crate::proofs::Digests::digest_cut, crate::proofs::Digests::digest_there))]
-fn read_digest(b: &[u8], place: &mut usize) -> Result<[u8; 16], Stop>
+pub(crate) fn read_digest(b: &[u8], place: &mut usize) -> Result<[u8; 16], Stop>
     requires { place.old ≤ length b.now }
     ensures { Reads (λ v. v) b.now (read_digest (drop place.old b.now)) place.new result }
 {

@@ -23,7 +23,7 @@ use Rattle.lib_format.proofs.ListLaws.{list_read, list_spelled, four, five}
 use Rattle.lib_format.proofs.DeclarationLaws.{new_name_read, new_name_spelled, declarations_read, declarations_spelled}
 
 -- digests
-digest_read : (digest rest : List ℕ) → IsDigest digest → read_digest (digest ++ rest) ≡ value digest rest
+pub digest_read : (digest rest : List ℕ) → IsDigest digest → read_digest (digest ++ rest) ≡ value digest rest
 unfolding read_digest
 digest_read digest rest h =
     let n = h.0 in
@@ -43,7 +43,7 @@ all_of : (bs : List ℕ) → AreBytes bs → All (λ b. b < 256) bs
 all_of [] h = λ k d l. absurd (omega arith)
 all_of (b ∷ bs) h = more b bs h.0 (all_of bs h.1)
 
-digest_spelled : (bytes digest rest : List ℕ) → AreBytes bytes → read_digest bytes ≡ value digest rest → Spelled (IsDigest digest) digest bytes rest
+pub digest_spelled : (bytes digest rest : List ℕ) → AreBytes bytes → read_digest bytes ≡ value digest rest → Spelled (IsDigest digest) digest bytes rest
 unfolding read_digest
 digest_spelled bytes digest rest a e = by (nat_lt (length bytes) 16) refl e
   where

@@ -126,7 +126,7 @@ transparent_read library seen id type body rest n s t =
 same_number : (n : ℕ) → (n == n) ≡ true
 same_number n = eq-eqb n n refl
 
-place_read : (index : ℕ) (rest : List ℕ) → index < 2 ^ 32 → read_place index (digits index ++ rest) ≡ value index rest
+pub place_read : (index : ℕ) (rest : List ℕ) → index < 2 ^ 32 → read_place index (digits index ++ rest) ≡ value index rest
 unfolding read_place
 place_read index rest h = rw (number_read index rest h, same_number index) refl
 
@@ -185,14 +185,21 @@ transparent_spelled library seen index tag more d rest is a e =
     moved (IsDeclaration library seen index) (declaration_bytes index) (same_of k.next)
     (after_byte tag 2 is (three (λ n t b. (n, t, b)) p q r))
 
-place_spelled : (index : ℕ) (bytes : List ℕ) (n : ℕ) (rest : List ℕ) → AreBytes bytes → read_place index bytes ≡ value n rest → Spelled (index < 2 ^ 32) (digits index) bytes rest
+-- The number that was read is that place.
+pub record PlaceIs (index : ℕ) (bytes : List ℕ) (n : ℕ) (rest : List ℕ) : Type 0 where
+  pub is_that : n ≡ index
+  pub spelled : Spelled (n < 2 ^ 32) (digits n) bytes rest
+
+pub place_is : (index : ℕ) (bytes : List ℕ) (n : ℕ) (rest : List ℕ) → AreBytes bytes → read_place index bytes ≡ value n rest → PlaceIs index bytes n rest
 unfolding read_place
-place_spelled index bytes n rest a e =
+place_is index bytes n rest a e =
     let f = follows _ _ _ _ e in
     let r = right_of _ _ _ _ _ _ f.next in
     let s = same_of r.read in
-    let p = moved (λ m. m < 2 ^ 32) digits s (number_spelled bytes f.first f.after a f.read) in
-    subst (λ m. Spelled (m < 2 ^ 32) (digits m) bytes rest) (sym s.value_is ∙ eqb-true f.first index r.holds) p
+    record { is_that = sym s.value_is ∙ eqb-true f.first index r.holds; spelled = moved (λ m. m < 2 ^ 32) digits s (number_spelled bytes f.first f.after a f.read) }
+
+place_spelled : (index : ℕ) (bytes : List ℕ) (n : ℕ) (rest : List ℕ) → AreBytes bytes → read_place index bytes ≡ value n rest → Spelled (index < 2 ^ 32) (digits index) bytes rest
+place_spelled index bytes n rest a e = let p = place_is index bytes n rest a e in subst (λ m. Spelled (m < 2 ^ 32) (digits m) bytes rest) p.is_that p.spelled
 
 opaque_spelled : (library : List ℕ) (seen : List (List ℕ)) (index tag : ℕ) (more : List ℕ) (d : Declaration) (rest : List ℕ) → tag ≡ 3 → AreBytes more → read_opaque library seen index more ≡ value d rest → Spelled (IsDeclaration library seen index d) (declaration_bytes index d) (tag ∷ more) rest
 unfolding read_opaque

@@ -2,5 +2,6 @@ pub mod Behind
 pub mod ListLaws
 pub mod DeclarationLaws
 pub mod ContentsLaws
+pub mod OpaqueLaws
 pub mod Stated
 pub mod Shown

@@ -18,7 +18,7 @@ module _ {A : Type 0} (spelling : List A → A → List ℕ) (May : List A → A
   abbrev pub ItemsAreSpelled : Type 0
   ItemsAreSpelled = (before : List A) (bytes : List ℕ) (x : A) (rest : List ℕ) → AreBytes bytes → read before bytes ≡ value x rest → Spelled (May before x) (spelling before x) bytes rest
 
-  items_read : ItemsAreRead → (before xs : List A) (rest : List ℕ) → MayStand May before xs → read_items read before (length xs) (items_bytes spelling before xs ++ rest) ≡ value (before ++ xs) rest
+  pub items_read : ItemsAreRead → (before xs : List A) (rest : List ℕ) → MayStand May before xs → read_items read before (length xs) (items_bytes spelling before xs ++ rest) ≡ value (before ++ xs) rest
   items_read h before [] rest m = ap (λ z. value z rest) (sym (append-nil before))
   items_read h before (x ∷ xs) rest m =
       let others = items_bytes spelling (before ++ x ∷ []) xs in
@@ -46,13 +46,13 @@ module _ {A : Type 0} (spelling : List A → A → List ℕ) (May : List A → A
       ∙ (ap (λ t. if_right t Number bytes (read_items read [] (length xs) (items ++ rest))) (le-leb 1 (length xs) l) ∙ items_read h [] xs rest m.each))
 
   -- Items that were read behind those before.
-  record ItemsSpelled (before : List A) (count : ℕ) (all : List A) (bytes rest : List ℕ) : Type 0 where
-    items : List A
-    all_are : all ≡ before ++ items
-    count_is : length items ≡ count
-    spelled : Spelled (MayStand May before items) (items_bytes spelling before items) bytes rest
+  pub record ItemsSpelled (before : List A) (count : ℕ) (all : List A) (bytes rest : List ℕ) : Type 0 where
+    pub items : List A
+    pub all_are : all ≡ before ++ items
+    pub count_is : length items ≡ count
+    pub spelled : Spelled (MayStand May before items) (items_bytes spelling before items) bytes rest
 
-  items_spelled : ItemsAreSpelled → (before : List A) (count : ℕ) (bytes : List ℕ) (all : List A) (rest : List ℕ) → AreBytes bytes → read_items read before count bytes ≡ value all rest → ItemsSpelled before count all bytes rest
+  pub items_spelled : ItemsAreSpelled → (before : List A) (count : ℕ) (bytes : List ℕ) (all : List A) (rest : List ℕ) → AreBytes bytes → read_items read before count bytes ≡ value all rest → ItemsSpelled before count all bytes rest
   items_spelled h before zero bytes all rest a e =
       let s = same_of e in
       record {

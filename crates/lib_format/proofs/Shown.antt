@@ -1,12 +1,11 @@
 -- Readings of the examples.
-use Rattle.std.proofs.Common.{◌≡◌, ℕ, List, [], ◌∷◌, ◌++◌, refl, arith, true, ap, ◌∙◌}
-use Rattle.std.specs.Prelude.{codes, None}
-use Rattle.cic_names.specs.Identifier.{is_identifier}
+use Rattle.std.proofs.Common.{◌≡◌, ℕ, List, [], ◌∷◌, ◌++◌, refl, arith}
+use Rattle.std.specs.Prelude.{codes}
 use Rattle.cic_rules.specs.Environment.{axiom_of, inductive}
 use Rattle.cic_terms.specs.Tree.{sort, prop, set, prod}
 use Rattle.seg_format.specs.declared.faults.Defect.TheVariants.{Number, Tag}
 use Rattle.seg_format.specs.declared.faults.Defect.TheVariants.{Name as NoName}
-use Rattle.term_format.specs.Storable.{IsName, IsStorable}
+use Rattle.term_format.specs.Storable.{IsName}
 use Rattle.term_format.specs.Reading.{value, wrong, read_number, number_of, read_limited, read_name}
 use Rattle.term_format.specs.TermReading.{read_whole_term, read_term, row_of}
 use Rattle.term_format.proofs.NameLaws.{name_read}

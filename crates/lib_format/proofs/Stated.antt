@@ -3,12 +3,13 @@ use Rattle.std.proofs.Common.{◌≡◌, ℕ, List, [], ◌++◌, ap, sym, ◌�
 use Rattle.term_format.specs.Reading.{Reading, value}
 use Rattle.term_format.specs.calls.Laws.{Spells}
 use Rattle.term_format.proofs.Bytes.{are_bytes, Spelled, Same, same_of}
-use Rattle.lib_format.specs.calls.Laws.{read_declarations_are_spelled, read_lists_are_spelled, read_summaries_are_spelled, read_libraries_are_spelled, declarations_have_one_spelling, summaries_have_one_spelling, libraries_have_one_spelling, declarations_end_themselves, summaries_end_themselves, libraries_end_themselves}
+use Rattle.lib_format.specs.calls.Laws.{read_declarations_are_spelled, read_lists_are_spelled, read_summaries_are_spelled, read_libraries_are_spelled, read_heads_are_spelled, declarations_have_one_spelling, summaries_have_one_spelling, libraries_have_one_spelling, declarations_end_themselves, summaries_end_themselves, libraries_end_themselves}
 use Rattle.lib_format.specs.DeclarationBytes.{declarations_bytes}
 use Rattle.lib_format.specs.DeclarationReading.{read_declarations}
 use Rattle.lib_format.specs.Contents.{summary_bytes, library_bytes}
 use Rattle.lib_format.specs.ContentsReading.{read_summary, read_library}
 use Rattle.lib_format.proofs.DeclarationLaws.{declaration_spelled, declarations_read, declarations_spelled}
+use Rattle.lib_format.proofs.OpaqueLaws.{head_spelled}
 use Rattle.lib_format.proofs.ContentsLaws.{summary_read, summary_spelled, library_read, library_spelled}
 
 stated : {Ok : Type 0} {s bytes rest : List ℕ} → Spelled Ok s bytes rest → Spells Ok s bytes rest
@@ -25,6 +26,9 @@ summary_law bytes s rest h e = stated (summary_spelled bytes s rest (are_bytes b
 
 pub library_law : read_libraries_are_spelled
 library_law bytes c rest h e = stated (library_spelled bytes c rest (are_bytes bytes h) e)
+
+pub head_law : read_heads_are_spelled
+head_law count bytes rows bodies h e = stated (head_spelled count bytes rows bodies (are_bytes bytes h) e)
 
 -- Two values where the spelling of one begins with that of the other.
 ends : {A : Type 0} (read : List ℕ → Reading A) (a b : A) (s t more : List ℕ) → read (s ++ more) ≡ value a more → read (t ++ []) ≡ value b [] → s ++ more ≡ t → Same a b more []

@@ -1,4 +1,4 @@
-//! The bytes of declarations, summaries and interfaces in a library file: how each is spelled, which can be stored, and
+//! The bytes of declarations, summaries, interfaces and heads of opaques in a library file: how each is spelled, which can be stored, and
 //! how bytes are read, with their first defect. Each public function has an empty body, and its contract is a law or an
 //! example.
 #![tactic(auto)]
@@ -7,4 +7,4 @@ pub mod examples;
 pub mod laws;
 mod stored;
 
-pub use stored::{Library, Need, NeedFlag, Recorded, Summary};
+pub use stored::{Library, Need, NeedFlag, OpaqueRow, Recorded, Summary};

@@ -43,3 +43,12 @@ pub struct Summary {
     pub budget: u32,
     pub closure: Vec<Recorded>,
 }
+
+/// A row of the head of the opaques: where the body of a constant that does not unfold stands behind the head, how many
+/// bytes it has, and their digest.
+#[derive(Clone, Copy, Debug, PartialEq, Eq)]
+pub struct OpaqueRow {
+    pub place: u32,
+    pub length: u32,
+    pub digest: [u8; 16],
+}

@@ -7,6 +7,7 @@ use Rattle.cic_env.specs.declared.declaration.CtorDecl.{CtorDecl}
 use Rattle.cic_env.specs.declared.declaration.IndType.{IndType}
 use Rattle.cic_env.specs.declared.declaration.Decl.{Decl}
 use Rattle.lib_format.specs.declared.stored.Need.{Need}
+use Rattle.lib_format.specs.declared.stored.OpaqueRow.{OpaqueRow}
 use Rattle.lib_format.specs.declared.stored.Recorded.{Recorded}
 
 abbrev pub constructors_of : Vec CtorDecl Global → List ConstructorDeclaration
@@ -26,3 +27,6 @@ needs_of ns = ns.items
 
 abbrev pub levels_of : Vec (List ℕ) Global → List (List ℕ)
 levels_of ls = ls.items
+
+abbrev pub rows_of : Vec OpaqueRow Global → List OpaqueRow
+rows_of rs = rs.items

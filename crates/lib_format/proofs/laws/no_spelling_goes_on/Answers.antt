@@ -1,3 +1,4 @@
+use Rattle.lib_format.proofs.OpaqueLaws.{heads_stop}
 use Rattle.lib_format.proofs.Stated.{declarations_stop, summaries_stop, libraries_stop}
 use Rattle.lib_format.proofs.laws.no_spelling_goes_on.Goals as goal
 
@@ -9,3 +10,6 @@ returns-clause-summaries c = summaries_stop
 
 pub returns-clause-libraries : goal.returns-clause-libraries
 returns-clause-libraries c = libraries_stop
+
+pub returns-clause-opaques : goal.returns-clause-opaques
+returns-clause-opaques c = heads_stop

@@ -1,3 +1,4 @@
+use Rattle.lib_format.proofs.OpaqueLaws.{heads_differ}
 use Rattle.lib_format.proofs.Stated.{declarations_differ, summaries_differ, libraries_differ}
 use Rattle.lib_format.proofs.laws.one_value.Goals as goal
 
@@ -9,3 +10,6 @@ returns-clause-summaries c = summaries_differ
 
 pub returns-clause-libraries : goal.returns-clause-libraries
 returns-clause-libraries c = libraries_differ
+
+pub returns-clause-opaques : goal.returns-clause-opaques
+returns-clause-opaques c = heads_differ

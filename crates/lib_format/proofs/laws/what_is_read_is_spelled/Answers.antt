@@ -1,4 +1,4 @@
-use Rattle.lib_format.proofs.Stated.{declaration_law, declarations_law, summary_law, library_law}
+use Rattle.lib_format.proofs.Stated.{declaration_law, declarations_law, summary_law, library_law, head_law}
 use Rattle.lib_format.proofs.laws.what_is_read_is_spelled.Goals as goal
 
 pub returns-clause-declarations : goal.returns-clause-declarations
@@ -12,3 +12,6 @@ returns-clause-summaries c = summary_law
 
 pub returns-clause-libraries : goal.returns-clause-libraries
 returns-clause-libraries c = library_law
+
+pub returns-clause-heads : goal.returns-clause-heads
+returns-clause-heads c = head_law

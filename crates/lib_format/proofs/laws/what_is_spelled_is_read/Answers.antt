@@ -1,3 +1,4 @@
+use Rattle.lib_format.proofs.OpaqueLaws.{head_read}
 use Rattle.lib_format.proofs.DeclarationLaws.{declaration_read, declarations_read}
 use Rattle.lib_format.proofs.ContentsLaws.{summary_read, library_read}
 use Rattle.lib_format.proofs.laws.what_is_spelled_is_read.Goals as goal
@@ -13,3 +14,6 @@ returns-clause-summaries c = summary_read
 
 pub returns-clause-libraries : goal.returns-clause-libraries
 returns-clause-libraries c = library_read
+
+pub returns-clause-heads : goal.returns-clause-heads
+returns-clause-heads c = head_read
