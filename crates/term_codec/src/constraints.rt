@@ -89,11 +89,7 @@ fn keep(all: &mut Constraints, before: &mut Option<Constraint>, one: Constraint)
 
 /// A list of constraints. The count takes no memory before its items are read.
 #[tactic(auto, unfolding(term_format::specs::ConstraintReading::read_constraints))]
-pub(crate) fn read_constraints(
-    alloc: Global,
-    b: &[u8],
-    place: &mut usize,
-) -> Result<Constraints, Stop>
+pub fn read_constraints(alloc: Global, b: &[u8], place: &mut usize) -> Result<Constraints, Stop>
     requires { place.old ≤ length b.now }
     ensures { Reads (λ v. v) b.now (read_constraints (drop place.old b.now)) place.new result }
 {

@@ -11,9 +11,9 @@ pub enum DecodeFault {
     NoMemory,
 }
 
-/// The same inside a reader: a defect stands before which byte it was found, of whatever segment.
+/// Why reading on from a place ends without a value: at a defect, which stands before that byte, or there was no memory.
 #[derive(Clone, Copy)]
-pub(crate) enum Stop {
+pub enum Stop {
     Wrong(Defect, usize),
     NoMemory,
 }
@@ -32,7 +32,7 @@ ghost use Rattle.term_codec.specs.calls.Answers.{IsSmall, Names};
 
 impl Stop {
     /// The fault as callers see it: the bytes are those of that segment.
-    pub(crate) fn in_segment(self, segment: Segment) -> DecodeFault
+    pub fn in_segment(self, segment: Segment) -> DecodeFault
         requires { IsSmall self }
         ensures { Names segment self result }
     {

@@ -8,7 +8,8 @@ use cic_names::{GlobalId, Level, LevelName, Name, NameFault, Part};
 use seg_format::Defect;
 use std::alloc::Global;
 
-pub(crate) fn byte_at(b: &[u8], place: &mut usize) -> Result<u8, Stop>
+/// The byte at a place.
+pub fn byte_at(b: &[u8], place: &mut usize) -> Result<u8, Stop>
     requires { place.old ≤ length b.now }
     ensures { Reads (λ v. v) b.now (read_byte (drop place.old b.now)) place.new result }
 {
@@ -20,7 +21,8 @@ pub(crate) fn byte_at(b: &[u8], place: &mut usize) -> Result<u8, Stop>
     Ok(b[at])
 }
 
-pub(crate) fn number_at(b: &[u8], place: &mut usize) -> Result<u32, Stop>
+/// The number of four bytes at a place.
+pub fn number_at(b: &[u8], place: &mut usize) -> Result<u32, Stop>
     requires { place.old ≤ length b.now }
     ensures { Reads (λ v. v) b.now (read_number (drop place.old b.now)) place.new result }
 {
@@ -34,7 +36,7 @@ pub(crate) fn number_at(b: &[u8], place: &mut usize) -> Result<u32, Stop>
 
 /// A number of at most `most`.
 #[tactic(auto, unfolding(term_format::specs::Reading::read_limited))]
-pub(crate) fn limited_at(b: &[u8], place: &mut usize, most: u32) -> Result<u32, Stop>
+pub fn limited_at(b: &[u8], place: &mut usize, most: u32) -> Result<u32, Stop>
     requires { place.old ≤ length b.now }
     ensures { Reads (λ v. v) b.now (read_limited most (drop place.old b.now)) place.new result }
 {
@@ -46,8 +48,9 @@ pub(crate) fn limited_at(b: &[u8], place: &mut usize, most: u32) -> Result<u32, 
     Ok(number)
 }
 
+/// The name at a place.
 #[tactic(auto, unfolding(term_format::specs::Reading::read_name))]
-pub(crate) fn read_name(alloc: Global, b: &[u8], place: &mut usize) -> Result<Name, Stop>
+pub fn read_name(alloc: Global, b: &[u8], place: &mut usize) -> Result<Name, Stop>
     requires { place.old ≤ length b.now }
     ensures { Reads (λ v. v) b.now (read_name (drop place.old b.now)) place.new result }
 {

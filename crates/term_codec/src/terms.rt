@@ -282,7 +282,7 @@ fn read_fix(alloc: Global, b: &[u8], place: &mut usize, room: u32) -> Result<Rc<
 ghost use Rattle.term_format.specs.TermReading.{read_whole_term};
 
 /// A term as a library file has it.
-pub(crate) fn read_owned(alloc: Global, b: &[u8], place: &mut usize) -> Result<Term, Stop>
+pub fn read_owned(alloc: Global, b: &[u8], place: &mut usize) -> Result<Term, Stop>
     requires { place.old ≤ length b.now }
     ensures { Reads (λ t. tree t) b.now (read_whole_term (drop place.old b.now)) place.new result }
 {

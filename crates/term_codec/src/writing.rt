@@ -6,20 +6,23 @@ ghost use Rattle.term_format.specs.Spelling.{id_bytes};
 use cic_names::{Constraint, GlobalId, Level, LevelName, Name, NoMemory, Part};
 use seg_format::Bytes;
 
-pub(crate) fn put_byte(bytes: &mut Bytes, byte: u8) -> Result<(), NoMemory>
+/// Writes a byte.
+pub fn put_byte(bytes: &mut Bytes, byte: u8) -> Result<(), NoMemory>
     ensures { OnOk result (bytes.new.items ≡ bytes.old.items ++ byte ∷ []) }
 {
     Ok(bytes.push(byte)?)
 }
 
+/// Writes a number as four bytes.
 #[tactic(auto, using(crate::proofs::Numbers::bytes_are_digits))]
-pub(crate) fn put_number(bytes: &mut Bytes, n: u32) -> Result<(), NoMemory>
+pub fn put_number(bytes: &mut Bytes, n: u32) -> Result<(), NoMemory>
     ensures { OnOk result (bytes.new.items ≡ bytes.old.items ++ digits n) }
 {
     Ok(bytes.extend_from_slice(&n.to_be_bytes())?)
 }
 
-pub(crate) fn put_name(bytes: &mut Bytes, name: &Name) -> Result<(), NoMemory>
+/// Writes a name behind its length.
+pub fn put_name(bytes: &mut Bytes, name: &Name) -> Result<(), NoMemory>
     ensures { OnOk result (bytes.new.items ≡ bytes.old.items ++ name_bytes name.now) }
 {
     let text = name.bytes();

@@ -52,9 +52,10 @@ fn put_global(bytes: &mut Bytes, tag: u8, id: &GlobalId) -> Result<(), NoMemory>
     put_id(bytes, id)
 }
 
+/// Writes a term.
 #[cycle(writing)]
 #[inline(never)]
-pub(crate) fn put_term(bytes: &mut Bytes, t: &Term) -> Result<(), NoMemory>
+pub fn put_term(bytes: &mut Bytes, t: &Term) -> Result<(), NoMemory>
     requires { HasRow (tree t.now) }
     ensures { OnOk result (bytes.new.items ≡ bytes.old.items ++ term_bytes (tree t.now)) }
 {

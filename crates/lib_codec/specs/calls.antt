@@ -1,0 +1,3 @@
+-- What the functions of this crate say.
+pub mod Lists
+pub mod Writing
