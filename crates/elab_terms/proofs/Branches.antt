@@ -1,5 +1,5 @@
 -- What is read of the branches of a match.
-use Rattle.std.proofs.Common.{◌≡◌, ℕ, ◌+◌, ◌-◌, ◌≤◌, ◌<◌, List, [], ◌∷◌, ◌++◌, map, reverse, length, drop, Result, OnOk, refl, sym, ap, ◌∙◌, arith}
+use Rattle.std.proofs.Common.{◌≡◌, ℕ, ◌+◌, ◌-◌, ◌≤◌, ◌<◌, List, [], ◌∷◌, map, reverse, length, drop, Result, OnOk, sym, ap, ◌∙◌, arith}
 use Rattle.std.specs.Prelude.{Option, Ok, Err}
 use Rattle.cic_terms.specs.Tree.{Tree}
 use Rattle.gal_grammar.specs.Terms as S
@@ -7,7 +7,7 @@ use Rattle.gal_grammar.specs.Terms.{Binder, Qual, Branches, no_branches, branch}
 use Rattle.gal_raw.specs.Denotes.{tree, qualified, binder}
 use Rattle.gal_raw.specs.calls.Lists.{branch_list}
 use Rattle.gal_raw.specs.declared.terms.Branch.{Branch}
-use Rattle.gal_scoping.specs.Readings.{Fault, Reading, after, with_part}
+use Rattle.gal_scoping.specs.Readings.{Fault, Reading, with_part}
 use Rattle.gal_scoping.specs.Names.{Around, Place, binder_name}
 use Rattle.gal_scoping.specs.Levels.{Owner, types_in, types_in_branches}
 use Rattle.gal_scoping.specs.Matches.{MatchedType, ReadBranch, Pattern, pattern_read, around_motive, around_branch, with_branch}
@@ -36,7 +36,6 @@ list_size g [] = omega arith
 list_size g (x ∷ xs) = let e = list_size (branch g (qualified x.constructor) (map binder x.names.items) (tree x.body)) xs in omega arith
 
 module _ (place : Place) (owner : Owner) (around : Around) (first : ℕ) (type : MatchedType) where
-
   branches_fault : (g : Branches) (xs : List Branch) (e : Fault) → with_part (map cut_branch) (branches place owner around first type g) ≡ Err e →
       with_part (map cut_branch) (branches place owner around first type (branch_list g xs)) ≡ Err e
   branches_fault g [] e h = h
@@ -66,7 +65,7 @@ module _ (place : Place) (owner : Owner) (around : Around) (first : ℕ) (type :
   body_fault g c xs t ks p around' first' e told told_p at counted h =
       after_part (map cut_branch) _ (map cut_branch) (branches place owner around first type g) ks (Err e) told
       (λ done is. ap (with_part (map cut_branch)) (after_is (pattern_read place around type done c xs) p _ (pattern_is done ks c xs (Ok p) is told_p))
-        ∙ part_fault cut (with_branch done p) (map cut_branch) (term place owner (around_branch around p) (first + types_in_branches g) t) e (inside cut around' first' g p t (Err e) at counted h))
+      ∙ part_fault cut (with_branch done p) (map cut_branch) (term place owner (around_branch around p) (first + types_in_branches g) t) e (inside cut around' first' g p t (Err e) at counted h))
 
   branch_read : (g : Branches) (c : Qual) (xs : List Binder) (t : S.Raw) (ks : List KnownBranch) (p : Pattern) (around' : Around) (first' : ℕ) (k : Option Tree) →
       with_part (map cut_branch) (branches place owner around first type g) ≡ Ok ks → known_pattern place around type ks c xs ≡ Ok p →
@@ -75,8 +74,8 @@ module _ (place : Place) (owner : Owner) (around : Around) (first : ℕ) (type :
   branch_read g c xs t ks p around' first' k told told_p at counted h =
       after_part (map cut_branch) _ (map cut_branch) (branches place owner around first type g) ks (Ok (known_with_branch ks p k)) told
       (λ done is. ap (with_part (map cut_branch)) (after_is (pattern_read place around type done c xs) p _ (pattern_is done ks c xs (Ok p) is told_p))
-        ∙ whole_part cut (with_branch done p) (map cut_branch) (term place owner (around_branch around p) (first + types_in_branches g) t) k (known_with_branch ks p k) (inside cut around' first' g p t (Ok k) at counted h)
-          (λ body e. sym (more_cut done p body) ∙ ap (λ z. known_with_branch z p (cut body)) is ∙ ap (known_with_branch ks p) e))
+      ∙ whole_part cut (with_branch done p) (map cut_branch) (term place owner (around_branch around p) (first + types_in_branches g) t) k (known_with_branch ks p k) (inside cut around' first' g p t (Ok k) at counted h)
+      (λ body e. sym (more_cut done p body) ∙ ap (λ z. known_with_branch z p (cut body)) is ∙ ap (known_with_branch ks p) e))
 
   pub record BranchesSoFar (whole : Branches) (rest : List Branch) (made : List KnownBranch) (around' : Around) (first' : ℕ) : Type 0 where
     pub past : Branches
@@ -107,8 +106,8 @@ module _ (place : Place) (owner : Owner) (around : Around) (first : ℕ) (type :
   pattern_fault_here whole rest rest' x made around' first' s at e h =
       ap (λ z. with_part (map cut_branch) (branches place owner around first type z)) (sym (ap (branch_list s.past) (sym at) ∙ s.is))
       ∙ branches_fault (branch s.past (qualified x.constructor) (map binder x.names.items) (tree x.body)) rest' e
-        (pattern_fault s.past (qualified x.constructor) (map binder x.names.items) (tree x.body) made e s.read
-          (ap (λ z. known_pattern place z type made (qualified x.constructor) (map binder x.names.items)) (sym s.same) ∙ h))
+      (pattern_fault s.past (qualified x.constructor) (map binder x.names.items) (tree x.body) made e s.read
+      (ap (λ z. known_pattern place z type made (qualified x.constructor) (map binder x.names.items)) (sym s.same) ∙ h))
 
   pub branch_fault_here : (whole : Branches) (rest rest' : List Branch) (x : Branch) (made : List KnownBranch) (p : Pattern) (around' around'' : Around) (first' : ℕ) →
       BranchesSoFar whole rest made around' first' → rest ≡ x ∷ rest' → (e : Fault) → known_pattern place around' type made (qualified x.constructor) (map binder x.names.items) ≡ Ok p →
@@ -117,9 +116,9 @@ module _ (place : Place) (owner : Owner) (around : Around) (first : ℕ) (type :
   branch_fault_here whole rest rest' x made p around' around'' first' s at e told inner h =
       ap (λ z. with_part (map cut_branch) (branches place owner around first type z)) (sym (ap (branch_list s.past) (sym at) ∙ s.is))
       ∙ branches_fault (branch s.past (qualified x.constructor) (map binder x.names.items) (tree x.body)) rest' e
-        (body_fault s.past (qualified x.constructor) (map binder x.names.items) (tree x.body) made p around'' first' e s.read
-          (ap (λ z. known_pattern place z type made (qualified x.constructor) (map binder x.names.items)) (sym s.same) ∙ told)
-          (inner ∙ ap (λ z. around_branch z p) s.same) s.counted h)
+      (body_fault s.past (qualified x.constructor) (map binder x.names.items) (tree x.body) made p around'' first' e s.read
+      (ap (λ z. known_pattern place z type made (qualified x.constructor) (map binder x.names.items)) (sym s.same) ∙ told)
+      (inner ∙ ap (λ z. around_branch z p) s.same) s.counted h)
 
   pub branch_more_here : (whole : Branches) (rest rest' : List Branch) (x : Branch) (made made' : List KnownBranch) (p : Pattern) (k : Option Tree) (around' around'' around''' : Around) (first' first'' : ℕ) →
       BranchesSoFar whole rest made around' first' → rest ≡ x ∷ rest' → known_pattern place around' type made (qualified x.constructor) (map binder x.names.items) ≡ Ok p →

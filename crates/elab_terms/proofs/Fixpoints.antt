@@ -1,5 +1,5 @@
 -- What is read of one function of a fix, and of the fix, from what is read of their parts.
-use Rattle.std.proofs.Common.{◌≡◌, ℕ, ◌+◌, List, [], ◌∷◌, ◌++◌, map, reverse, refl, sym, ap, subst, ◌∙◌, arith}
+use Rattle.std.proofs.Common.{◌≡◌, ℕ, ◌+◌, List, [], ◌∷◌, ◌++◌, map, reverse, refl, sym, ap, ◌∙◌, arith}
 use Rattle.std.specs.Prelude.{Option, Some, None, Ok, Err}
 use Rattle.std.specs.Option.{option_map}
 use Rattle.cic_terms.specs.Tree.{Tree}
@@ -7,17 +7,17 @@ use Rattle.gal_grammar.specs.Terms as S
 use Rattle.gal_grammar.specs.Terms.{Named, Groups, Functions, no_functions}
 use Rattle.gal_raw.specs.Denotes.{tree, identifier, groups, function as written}
 use Rattle.gal_raw.specs.declared.terms.Function.{Function, out-Function}
-use Rattle.gal_scoping.specs.Readings.{Fault, Reading, after, with_part, with_parts}
+use Rattle.gal_scoping.specs.Readings.{Fault, Reading, after, with_part}
 use Rattle.gal_scoping.specs.Names.{Around, Place}
-use Rattle.gal_scoping.specs.Levels.{Owner, types_in, types_in_groups, types_in_functions}
-use Rattle.gal_scoping.specs.Fixpoints.{Binding, names, inside, struct_place, function_names, function_meant, ReadFunction, fix_read}
+use Rattle.gal_scoping.specs.Levels.{Owner, types_in, types_in_groups}
+use Rattle.gal_scoping.specs.Fixpoints.{Binding, names, inside, struct_place, function_names, function_meant, fix_read}
 use Rattle.gal_scoping.specs.Terms.{term, bindings, functions}
 use Rattle.elab_parts.specs.calls.Parts.{cut}
 use Rattle.elab_parts.specs.calls.Bindings.{KnownBinding, cut_binding, known_inside}
 use Rattle.elab_parts.specs.calls.Functions.{KnownFunction, cut_function, known_fix}
 use Rattle.elab_parts.specs.calls.Places.{struct_at}
 use Rattle.elab_parts.proofs.Whole.{fix_cut}
-use Rattle.elab_terms.proofs.Steps.{after_fault, after_part, first_fault, second_fault, both_parts, part_fault, whole_part, names_cut}
+use Rattle.elab_terms.proofs.Steps.{after_fault, after_part, first_fault, second_fault, both_parts, names_cut}
 use Rattle.elab_terms.proofs.Formers.{inner}
 use Rattle.elab_terms.proofs.Functions.{one_read, function_parts}
 
@@ -38,7 +38,6 @@ pub fault_is : {A B D : Type 0} (R : Reading A) (e : Fault) (next : A → Readin
 fault_is R e next m h = rw h refl
 
 module _ (place : Place) (owner : Owner) (names : List (Option (List ℕ))) (around : Around) (first : ℕ) where
-
   alone : (x : Function) → functions place owner names around first (written no_functions x)
       ≡ one_read place owner names around [] first (groups (out-Function x).groups) (option_map identifier (out-Function x).structural) (tree (out-Function x).ty) (tree (out-Function x).body)
   alone x =
@@ -60,7 +59,7 @@ module _ (place : Place) (owner : Owner) (names : List (Option (List ℕ))) (aro
   single_struct_fault x ks ns e told same h =
       ap (with_part (map cut_function)) (alone x)
       ∙ after_part (map cut_binding) _ (map cut_function) (bindings place owner around first (groups (out-Function x).groups)) ks (Err e) told
-        (λ bs is. fault_is (struct_place (option_map identifier (out-Function x).structural) bs) e _ (map cut_function) (struct_names _ bs ks ns is same ∙ h))
+      (λ bs is. fault_is (struct_place (option_map identifier (out-Function x).structural) bs) e _ (map cut_function) (struct_names _ bs ks ns is same ∙ h))
 
   pub single_type_fault : (x : Function) (ks : List KnownBinding) (ns : List (Option (List ℕ))) (st : Option ℕ) (around' : Around) (first' : ℕ) (e : Fault) →
       with_part (map cut_binding) (bindings place owner around first (groups (out-Function x).groups)) ≡ Ok ks → ns ≡ map (λ (b : KnownBinding). b.name) ks →
@@ -71,9 +70,9 @@ module _ (place : Place) (owner : Owner) (names : List (Option (List ℕ))) (aro
   single_type_fault x ks ns st around' first' e told same told_st at counted h =
       ap (with_part (map cut_function)) (alone x)
       ∙ after_part (map cut_binding) _ (map cut_function) (bindings place owner around first (groups (out-Function x).groups)) ks (Err e) told
-        (λ bs is. ap (with_part (map cut_function)) (after_is (struct_place (option_map identifier (out-Function x).structural) bs) st _ (struct_names _ bs ks ns is same ∙ told_st))
-          ∙ first_fault cut _ (map cut_function) (term place owner (inside bs around) (first + types_in_groups (groups (out-Function x).groups)) (tree (out-Function x).ty)) _ e
-            (inner place owner around first cut ks around' first' _ (tree (out-Function x).ty) (Err e) at counted h bs is))
+      (λ bs is. ap (with_part (map cut_function)) (after_is (struct_place (option_map identifier (out-Function x).structural) bs) st _ (struct_names _ bs ks ns is same ∙ told_st))
+      ∙ first_fault cut _ (map cut_function) (term place owner (inside bs around) (first + types_in_groups (groups (out-Function x).groups)) (tree (out-Function x).ty)) _ e
+      (inner place owner around first cut ks around' first' _ (tree (out-Function x).ty) (Err e) at counted h bs is))
 
   pub single_body_fault : (x : Function) (ks : List KnownBinding) (ns : List (Option (List ℕ))) (st : Option ℕ) (around' around'' : Around) (first' first'' : ℕ) (ka : Option Tree) (e : Fault) →
       with_part (map cut_binding) (bindings place owner around first (groups (out-Function x).groups)) ≡ Ok ks → ns ≡ map (λ (b : KnownBinding). b.name) ks →
@@ -87,11 +86,11 @@ module _ (place : Place) (owner : Owner) (names : List (Option (List ℕ))) (aro
       let count = counted' ∙ ap (λ z. z + types_in (tree (out-Function x).ty)) counted in
       ap (with_part (map cut_function)) (alone x)
       ∙ after_part (map cut_binding) _ (map cut_function) (bindings place owner around first (groups (out-Function x).groups)) ks (Err e) told
-        (λ bs is. ap (with_part (map cut_function)) (after_is (struct_place (option_map identifier (out-Function x).structural) bs) st _ (struct_names _ bs ks ns is same ∙ told_st))
-          ∙ second_fault cut cut _ (map cut_function) (term place owner (inside bs around) (first + types_in_groups (groups (out-Function x).groups)) (tree (out-Function x).ty))
-            (term place owner (inside bs (reverse names ++ around)) (first + types_in_groups (groups (out-Function x).groups) + types_in (tree (out-Function x).ty)) (tree (out-Function x).body)) ka e
-            (inner place owner around first cut ks around' first' _ (tree (out-Function x).ty) (Ok ka) at counted told_a bs is)
-            (inner place owner (reverse names ++ around) first cut ks around'' first'' _ (tree (out-Function x).body) (Err e) at' count h bs is))
+      (λ bs is. ap (with_part (map cut_function)) (after_is (struct_place (option_map identifier (out-Function x).structural) bs) st _ (struct_names _ bs ks ns is same ∙ told_st))
+      ∙ second_fault cut cut _ (map cut_function) (term place owner (inside bs around) (first + types_in_groups (groups (out-Function x).groups)) (tree (out-Function x).ty))
+      (term place owner (inside bs (reverse names ++ around)) (first + types_in_groups (groups (out-Function x).groups) + types_in (tree (out-Function x).ty)) (tree (out-Function x).body)) ka e
+      (inner place owner around first cut ks around' first' _ (tree (out-Function x).ty) (Ok ka) at counted told_a bs is)
+      (inner place owner (reverse names ++ around) first cut ks around'' first'' _ (tree (out-Function x).body) (Err e) at' count h bs is))
 
   pub single_whole : (x : Function) (ks : List KnownBinding) (ns : List (Option (List ℕ))) (st : Option ℕ) (around' around'' : Around) (first' first'' : ℕ) (ka kt : Option Tree) →
       with_part (map cut_binding) (bindings place owner around first (groups (out-Function x).groups)) ≡ Ok ks → ns ≡ map (λ (b : KnownBinding). b.name) ks →
@@ -105,15 +104,14 @@ module _ (place : Place) (owner : Owner) (names : List (Option (List ℕ))) (aro
       let count = counted' ∙ ap (λ z. z + types_in (tree (out-Function x).ty)) counted in
       ap (with_part (map cut_function)) (alone x)
       ∙ after_part (map cut_binding) _ (map cut_function) (bindings place owner around first (groups (out-Function x).groups)) ks (Ok (record { struct = st; bindings = ks; codomain = ka; body = kt } ∷ [])) told
-        (λ bs is. ap (with_part (map cut_function)) (after_is (struct_place (option_map identifier (out-Function x).structural) bs) st _ (struct_names _ bs ks ns is same ∙ told_st))
-          ∙ both_parts cut cut _ (map cut_function) (term place owner (inside bs around) (first + types_in_groups (groups (out-Function x).groups)) (tree (out-Function x).ty))
-            (term place owner (inside bs (reverse names ++ around)) (first + types_in_groups (groups (out-Function x).groups) + types_in (tree (out-Function x).ty)) (tree (out-Function x).body)) ka kt _
-            (inner place owner around first cut ks around' first' _ (tree (out-Function x).ty) (Ok ka) at counted told_a bs is)
-            (inner place owner (reverse names ++ around) first cut ks around'' first'' _ (tree (out-Function x).body) (Ok kt) at' count told_t bs is)
-            (λ a b ea eb. rw (is, ea, eb) refl))
+      (λ bs is. ap (with_part (map cut_function)) (after_is (struct_place (option_map identifier (out-Function x).structural) bs) st _ (struct_names _ bs ks ns is same ∙ told_st))
+      ∙ both_parts cut cut _ (map cut_function) (term place owner (inside bs around) (first + types_in_groups (groups (out-Function x).groups)) (tree (out-Function x).ty))
+      (term place owner (inside bs (reverse names ++ around)) (first + types_in_groups (groups (out-Function x).groups) + types_in (tree (out-Function x).ty)) (tree (out-Function x).body)) ka kt _
+      (inner place owner around first cut ks around' first' _ (tree (out-Function x).ty) (Ok ka) at counted told_a bs is)
+      (inner place owner (reverse names ++ around) first cut ks around'' first'' _ (tree (out-Function x).body) (Ok kt) at' count told_t bs is)
+      (λ a b ea eb. rw (is, ea, eb) refl))
 
 module _ (place : Place) (owner : Owner) (around : Around) (first : ℕ) (fs : Functions) (x : Option Named) (ns : List (Option (List ℕ))) (same : ns ≡ function_names fs) where
-
   -- the fix
   pub fix_functions_fault : (e : Fault) → with_part (map cut_function) (functions place owner ns around first fs) ≡ Err e → with_part cut (term place owner around first (S.fix_of fs x)) ≡ Err e
   fix_functions_fault e h =
@@ -133,6 +131,6 @@ module _ (place : Place) (owner : Owner) (around : Around) (first : ℕ) (fs : F
       after_part (map cut_function) _ cut (functions place owner (function_names fs) around first fs) ks (Ok made)
       (ap (λ z. with_part (map cut_function) (functions place owner z around first fs)) (sym same) ∙ told)
       (λ read is.
-        let e : function_meant x (function_names fs) ≡ Ok which = ap (function_meant x) (sym same) ∙ told_which in
-        let e' : cut (fix_read place.environment read which) ≡ made = sym (fix_cut place.environment read which) ∙ ap (λ z. known_fix place.environment z which) is ∙ sym is_made in
-        rw (e, e') refl)
+      let e : function_meant x (function_names fs) ≡ Ok which = ap (function_meant x) (sym same) ∙ told_which in
+      let e' : cut (fix_read place.environment read which) ≡ made = sym (fix_cut place.environment read which) ∙ ap (λ z. known_fix place.environment z which) is ∙ sym is_made in
+      rw (e, e') refl)

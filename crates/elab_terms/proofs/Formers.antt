@@ -1,5 +1,5 @@
 -- What is read of each form of terms, from what is read of its parts.
-use Rattle.std.proofs.Common.{◌≡◌, ℕ, ◌+◌, ◌-◌, ◌≤◌, ◌<◌, List, [], ◌∷◌, ◌++◌, map, reverse, length, drop, refl, sym, ap, subst, ◌∙◌, length-append, append_assoc, arith}
+use Rattle.std.proofs.Common.{◌≡◌, ℕ, ◌+◌, ◌-◌, ◌≤◌, ◌<◌, List, [], ◌∷◌, ◌++◌, map, reverse, length, drop, refl, sym, ap, ◌∙◌, length-append, append_assoc, arith}
 use Rattle.std.specs.Prelude.{Option, Some, None, Ok, Err}
 use Rattle.std.proofs.Math.Seq.{drop-append_seam}
 use Rattle.std.proofs.lemmas.List.{map-append, reverse-append}
@@ -12,17 +12,15 @@ use Rattle.gal_raw.specs.Denotes.{tree, applied, binder}
 use Rattle.gal_raw.specs.calls.Lists.{group_list}
 use Rattle.gal_raw.specs.declared.terms.Raw.{Raw}
 use Rattle.gal_raw.specs.declared.terms.Group.{Group}
-use Rattle.gal_scoping.specs.Readings.{Fault, Reading, after, with_part, with_parts}
+use Rattle.gal_scoping.specs.Readings.{Fault, Reading, with_part}
 use Rattle.gal_scoping.specs.Names.{Around, Place, text_of, binder_name}
 use Rattle.gal_scoping.specs.Levels.{Owner, types_in, types_in_groups}
 use Rattle.gal_scoping.specs.Fixpoints.{Binding, domains, inside, bindings_from}
 use Rattle.gal_scoping.specs.Terms.{term, bindings}
-use Rattle.elab_parts.specs.declared.fault.ScopingFault.{ScopingFault}
 use Rattle.elab_parts.specs.declared.making.Pair.{Pair}
 use Rattle.elab_parts.specs.declared.making.Pair.TheVariants.{Product, Abstraction, Application}
-use Rattle.elab_parts.specs.calls.Parts.{known, cut, of_two, of_three, pair_tree}
+use Rattle.elab_parts.specs.calls.Parts.{cut, of_two, of_three, pair_tree}
 use Rattle.elab_parts.specs.calls.Bindings.{KnownBinding, cut_binding, bindings_known, over_all, known_inside}
-use Rattle.elab_parts.specs.calls.Readings.{Reads}
 use Rattle.elab_terms.specs.calls.Sizes.{size, size_groups}
 use Rattle.elab_terms.specs.calls.Walks.{over_groups, IsOver}
 use Rattle.elab_terms.proofs.Measures.{argument_smaller, applied_types, groups_size, groups_types}
@@ -68,7 +66,7 @@ pub inside_more : (ks : List KnownBinding) (xs : List Binder) (k : Option Tree) 
 inside_more ks xs k around =
     let name = λ (b : KnownBinding). b.name in
     let e : reverse (map name (ks ++ bindings_known 0 xs k)) ≡ reverse (map binder_name xs) ++ reverse (map name ks) =
-        ap reverse (map-append name ks (bindings_known 0 xs k) ∙ ap (λ ys. map name ks ++ ys) (group_names 0 xs k)) ∙ reverse-append (map name ks) (map binder_name xs) in
+    ap reverse (map-append name ks (bindings_known 0 xs k) ∙ ap (λ ys. map name ks ++ ys) (group_names 0 xs k)) ∙ reverse-append (map name ks) (map binder_name xs) in
     sym (append_assoc (reverse (map binder_name xs)) (reverse (map name ks)) around) ∙ ap (λ ys. ys ++ around) (sym e)
 
 module _ (place : Place) (owner : Owner) (around : Around) (first : ℕ) where
@@ -135,11 +133,11 @@ module _ (place : Place) (owner : Owner) (around : Around) (first : ℕ) where
   over_whole Product gs b ks around' first' k made is told same counted h made_is =
       after_part (map cut_binding) _ cut (bindings place owner around first gs) ks (Ok made) told
       (λ bs is. whole_part cut (products (domains bs)) cut (term place owner (inside bs around) (first + types_in_groups gs) b) k made (inner cut ks around' first' _ b (Ok k) same counted h bs is)
-        (λ t e. sym (cut_products bs t) ∙ ap (λ z. over_all (pair_tree Product) z (cut t)) is ∙ ap (over_all (pair_tree Product) ks) e ∙ sym made_is))
+      (λ t e. sym (cut_products bs t) ∙ ap (λ z. over_all (pair_tree Product) z (cut t)) is ∙ ap (over_all (pair_tree Product) ks) e ∙ sym made_is))
   over_whole Abstraction gs b ks around' first' k made is told same counted h made_is =
       after_part (map cut_binding) _ cut (bindings place owner around first gs) ks (Ok made) told
       (λ bs is. whole_part cut (abstractions (domains bs)) cut (term place owner (inside bs around) (first + types_in_groups gs) b) k made (inner cut ks around' first' _ b (Ok k) same counted h bs is)
-        (λ t e. sym (cut_abstractions bs t) ∙ ap (λ z. over_all (pair_tree Abstraction) z (cut t)) is ∙ ap (over_all (pair_tree Abstraction) ks) e ∙ sym made_is))
+      (λ t e. sym (cut_abstractions bs t) ∙ ap (λ z. over_all (pair_tree Abstraction) z (cut t)) is ∙ ap (over_all (pair_tree Abstraction) ks) e ∙ sym made_is))
   over_whole Application gs b ks around' first' k made is told same counted h made_is = absurd is
 
   -- groups of binders
@@ -156,8 +154,8 @@ module _ (place : Place) (owner : Owner) (around : Around) (first : ℕ) where
   group_fault g whole x xs rest around' first' ks e told same counted at is h =
       rw (← is, at) (groups_fault (group g (map binder x.binders.items) (tree x.ty)) rest e
       (after_part (map cut_binding) _ (map cut_binding) (bindings place owner around first g) ks (Err e) told
-        (λ bs is. part_fault cut (λ type. bs ++ bindings_from 0 (map binder x.binders.items) type) (map cut_binding) (term place owner (inside bs around) (first + types_in_groups g) (tree x.ty)) e
-          (inner cut ks around' first' _ (tree x.ty) (Err e) same counted h bs is))))
+      (λ bs is. part_fault cut (λ type. bs ++ bindings_from 0 (map binder x.binders.items) type) (map cut_binding) (term place owner (inside bs around) (first + types_in_groups g) (tree x.ty)) e
+      (inner cut ks around' first' _ (tree x.ty) (Err e) same counted h bs is))))
 
   pub group_more : (g : Groups) (xs : List Binder) (a : S.Raw) (around' : Around) (first' : ℕ) (ks made : List KnownBinding) (k : Option Tree) →
       with_part (map cut_binding) (bindings place owner around first g) ≡ Ok ks → around' ≡ known_inside ks around → first' ≡ first + types_in_groups g →
@@ -166,7 +164,7 @@ module _ (place : Place) (owner : Owner) (around : Around) (first : ℕ) where
   group_more g xs a around' first' ks made k told same counted h made_is =
       after_part (map cut_binding) _ (map cut_binding) (bindings place owner around first g) ks (Ok made) told
       (λ bs is. whole_part cut (λ type. bs ++ bindings_from 0 xs type) (map cut_binding) (term place owner (inside bs around) (first + types_in_groups g) a) k made
-        (inner cut ks around' first' _ a (Ok k) same counted h bs is) (λ t e. more_cut bs ks xs t k is e ∙ sym made_is))
+      (inner cut ks around' first' _ a (Ok k) same counted h bs is) (λ t e. more_cut bs ks xs t k is e ∙ sym made_is))
 
   -- definitions within a term
   pub let_binders_fault : (x : Named) (gs : Groups) (a t u : S.Raw) (e : Fault) →
@@ -187,8 +185,8 @@ module _ (place : Place) (owner : Owner) (around : Around) (first : ℕ) where
   let_body_fault x gs a t u ks around' around'' first' first'' ka e told same counted tolda same' counted' h =
       after_part (map cut_binding) _ cut (bindings place owner around first gs) ks (Err e) told
       (λ bs is. after_part cut _ cut (term place owner (inside bs around) (first + types_in_groups gs) a) ka (Err e) (inner cut ks around' first' _ a (Ok ka) same counted tolda bs is)
-        (λ a' _. first_fault cut _ cut (term place owner (inside bs around) (first + types_in_groups gs + types_in a) t) (term place owner (Some (text_of x) ∷ around) (first + types_in_groups gs + types_in a + types_in t) u) e
-          (inner cut ks around'' first'' _ t (Err e) (same' ∙ same) (counted' ∙ ap (λ z. z + types_in a) counted) h bs is)))
+      (λ a' _. first_fault cut _ cut (term place owner (inside bs around) (first + types_in_groups gs + types_in a) t) (term place owner (Some (text_of x) ∷ around) (first + types_in_groups gs + types_in a + types_in t) u) e
+      (inner cut ks around'' first'' _ t (Err e) (same' ∙ same) (counted' ∙ ap (λ z. z + types_in a) counted) h bs is)))
 
   pub let_rest_fault : (x : Named) (gs : Groups) (a t u : S.Raw) (ks : List KnownBinding) (around' around'' around''' : Around) (first' first'' first''' : ℕ) (ka kt : Option Tree) (e : Fault) →
       with_part (map cut_binding) (bindings place owner around first gs) ≡ Ok ks → around' ≡ known_inside ks around → first' ≡ first + types_in_groups gs →
@@ -199,10 +197,10 @@ module _ (place : Place) (owner : Owner) (around : Around) (first : ℕ) where
       let count = counted' ∙ ap (λ z. z + types_in a) counted in
       after_part (map cut_binding) _ cut (bindings place owner around first gs) ks (Err e) told
       (λ bs is. after_part cut _ cut (term place owner (inside bs around) (first + types_in_groups gs) a) ka (Err e) (inner cut ks around' first' _ a (Ok ka) same counted tolda bs is)
-        (λ a' _. second_fault cut cut _ cut (term place owner (inside bs around) (first + types_in_groups gs + types_in a) t) (term place owner (Some (text_of x) ∷ around) (first + types_in_groups gs + types_in a + types_in t) u) kt e
-          (inner cut ks around'' first'' _ t (Ok kt) (same' ∙ same) count toldt bs is)
-          (ap (λ z. with_part cut (term place owner z (first + types_in_groups gs + types_in a + types_in t) u)) (sym same'')
-            ∙ ap (λ z. with_part cut (term place owner around''' z u)) (sym (counted'' ∙ ap (λ z. z + types_in t) count)) ∙ h)))
+      (λ a' _. second_fault cut cut _ cut (term place owner (inside bs around) (first + types_in_groups gs + types_in a) t) (term place owner (Some (text_of x) ∷ around) (first + types_in_groups gs + types_in a + types_in t) u) kt e
+      (inner cut ks around'' first'' _ t (Ok kt) (same' ∙ same) count toldt bs is)
+      (ap (λ z. with_part cut (term place owner z (first + types_in_groups gs + types_in a + types_in t) u)) (sym same'')
+      ∙ ap (λ z. with_part cut (term place owner around''' z u)) (sym (counted'' ∙ ap (λ z. z + types_in t) count)) ∙ h)))
 
   pub let_whole : (x : Named) (gs : Groups) (a t u : S.Raw) (ks : List KnownBinding) (around' around'' around''' : Around) (first' first'' first''' : ℕ) (ka kt ku ka' kt' made : Option Tree) →
       with_part (map cut_binding) (bindings place owner around first gs) ≡ Ok ks → around' ≡ known_inside ks around → first' ≡ first + types_in_groups gs →
@@ -215,12 +213,12 @@ module _ (place : Place) (owner : Owner) (around : Around) (first : ℕ) where
       let count = counted' ∙ ap (λ z. z + types_in a) counted in
       after_part (map cut_binding) _ cut (bindings place owner around first gs) ks (Ok made) told
       (λ bs is. after_part cut _ cut (term place owner (inside bs around) (first + types_in_groups gs) a) ka (Ok made) (inner cut ks around' first' _ a (Ok ka) same counted tolda bs is)
-        (λ a' ea. both_parts cut cut (λ t u. T.let_in (abstractions (domains bs) t) (products (domains bs) a') u) cut
-          (term place owner (inside bs around) (first + types_in_groups gs + types_in a) t) (term place owner (Some (text_of x) ∷ around) (first + types_in_groups gs + types_in a + types_in t) u) kt ku made
-          (inner cut ks around'' first'' _ t (Ok kt) (same' ∙ same) count toldt bs is)
-          (ap (λ z. with_part cut (term place owner z (first + types_in_groups gs + types_in a + types_in t) u)) (sym same'')
-            ∙ ap (λ z. with_part cut (term place owner around''' z u)) (sym (counted'' ∙ ap (λ z. z + types_in t) count)) ∙ toldu)
-          (λ t' u' et eu.
-            let ea' : ka' ≡ cut (products (domains bs) a') = isa ∙ sym (sym (cut_products bs a') ∙ ap (λ z. over_all (pair_tree Product) z (cut a')) is ∙ ap (over_all (pair_tree Product) ks) ea) in
-            let et' : kt' ≡ cut (abstractions (domains bs) t') = ist ∙ sym (sym (cut_abstractions bs t') ∙ ap (λ z. over_all (pair_tree Abstraction) z (cut t')) is ∙ ap (over_all (pair_tree Abstraction) ks) et) in
-            sym (cut_let (abstractions (domains bs) t') (products (domains bs) a') u') ∙ rw (is_made, ea', et', eu) refl)))
+      (λ a' ea. both_parts cut cut (λ t u. T.let_in (abstractions (domains bs) t) (products (domains bs) a') u) cut
+      (term place owner (inside bs around) (first + types_in_groups gs + types_in a) t) (term place owner (Some (text_of x) ∷ around) (first + types_in_groups gs + types_in a + types_in t) u) kt ku made
+      (inner cut ks around'' first'' _ t (Ok kt) (same' ∙ same) count toldt bs is)
+      (ap (λ z. with_part cut (term place owner z (first + types_in_groups gs + types_in a + types_in t) u)) (sym same'')
+      ∙ ap (λ z. with_part cut (term place owner around''' z u)) (sym (counted'' ∙ ap (λ z. z + types_in t) count)) ∙ toldu)
+      (λ t' u' et eu.
+      let ea' : ka' ≡ cut (products (domains bs) a') = isa ∙ sym (sym (cut_products bs a') ∙ ap (λ z. over_all (pair_tree Product) z (cut a')) is ∙ ap (over_all (pair_tree Product) ks) ea) in
+      let et' : kt' ≡ cut (abstractions (domains bs) t') = ist ∙ sym (sym (cut_abstractions bs t') ∙ ap (λ z. over_all (pair_tree Abstraction) z (cut t')) is ∙ ap (over_all (pair_tree Abstraction) ks) et) in
+      sym (cut_let (abstractions (domains bs) t') (products (domains bs) a') u') ∙ rw (is_made, ea', et', eu) refl)))

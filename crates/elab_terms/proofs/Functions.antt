@@ -1,21 +1,20 @@
 -- What is read of the functions of a fix, and of the fix.
-use Rattle.std.proofs.Common.{◌≡◌, ℕ, ◌+◌, ◌≤◌, ◌<◌, List, [], ◌∷◌, ◌++◌, map, reverse, refl, sym, ap, subst, ◌∙◌, append_assoc, arith}
-use Rattle.std.specs.Prelude.{Option, Some, None, Ok, Err}
+use Rattle.std.proofs.Common.{◌≡◌, ℕ, ◌+◌, ◌≤◌, List, [], ◌∷◌, ◌++◌, map, reverse, refl, sym, ap, ◌∙◌, arith}
+use Rattle.std.specs.Prelude.{Option, Ok, Err}
 use Rattle.std.specs.Option.{option_map}
 use Rattle.std.proofs.lemmas.List.{map-append}
-use Rattle.cic_terms.specs.Tree.{Tree}
 use Rattle.gal_grammar.specs.Terms as S
 use Rattle.gal_grammar.specs.Terms.{Named, Groups, Functions, no_functions}
-use Rattle.gal_raw.specs.Denotes.{tree, identifier, groups, functions as written_functions, function as written}
+use Rattle.gal_raw.specs.Denotes.{tree, identifier, groups, function as written}
 use Rattle.gal_raw.specs.calls.Lists.{function_list}
 use Rattle.gal_raw.specs.declared.terms.Function.{Function, Function', out-Function, outs-Function'}
 use Rattle.gal_scoping.specs.Readings.{Fault, Reading, after, with_part, with_parts}
 use Rattle.gal_scoping.specs.Names.{Around, Place}
 use Rattle.gal_scoping.specs.Levels.{Owner, types_in, types_in_groups, types_in_functions}
-use Rattle.gal_scoping.specs.Fixpoints.{Binding, inside, struct_place, ReadFunction}
+use Rattle.gal_scoping.specs.Fixpoints.{inside, struct_place, ReadFunction}
 use Rattle.gal_scoping.specs.Terms.{term, bindings, functions}
 use Rattle.elab_parts.specs.calls.Functions.{KnownFunction, cut_function}
-use Rattle.elab_terms.specs.calls.Sizes.{size, size_groups, size_functions}
+use Rattle.elab_terms.specs.calls.Sizes.{size_functions}
 use Rattle.elab_terms.proofs.Steps.{after_fault, after_part, part_fault, whole_part}
 
 -- the parts of a function as it is written
@@ -59,7 +58,6 @@ put_parts h (Ok a) R' f g e = put_part h R' (f a) (g a) (e a)
 put_parts h (Err x) R' f g e = refl
 
 module _ (place : Place) (owner : Owner) (names : List (Option (List ℕ))) (around : Around) where
-
   -- a function behind others, from the level number that its first `Type` takes
   abbrev pub one_read : (done : List ReadFunction) → (first : ℕ) → Groups → Option Named → S.Raw → S.Raw → Reading (List ReadFunction)
   one_read done first gs s a t =
@@ -100,8 +98,8 @@ module _ (place : Place) (owner : Owner) (names : List (Option (List ℕ))) (aro
       rw (← is, at) (functions_fault first (written fs x) rest e
       (ap (with_part (map cut_function)) (one_more first fs x)
       ∙ after_part (map cut_function) _ (map cut_function) (functions place owner names around first fs) ks (Err e) told
-        (λ done is. part_fault (map cut_function) (λ one. done ++ one) (map cut_function) (functions place owner names around (first + types_in_functions fs) (written no_functions x)) e
-          (ap (λ n. with_part (map cut_function) (functions place owner names around n (written no_functions x))) (sym counted) ∙ h))))
+      (λ done is. part_fault (map cut_function) (λ one. done ++ one) (map cut_function) (functions place owner names around (first + types_in_functions fs) (written no_functions x)) e
+      (ap (λ n. with_part (map cut_function) (functions place owner names around n (written no_functions x))) (sym counted) ∙ h))))
 
   pub function_more : (first : ℕ) (fs : Functions) (x : Function) (first' : ℕ) (ks : List KnownFunction) (k : KnownFunction) →
       with_part (map cut_function) (functions place owner names around first fs) ≡ Ok ks → first' ≡ first + types_in_functions fs →
@@ -110,6 +108,6 @@ module _ (place : Place) (owner : Owner) (names : List (Option (List ℕ))) (aro
   function_more first fs x first' ks k told counted h =
       ap (with_part (map cut_function)) (one_more first fs x)
       ∙ after_part (map cut_function) _ (map cut_function) (functions place owner names around first fs) ks (Ok (ks ++ k ∷ [])) told
-        (λ done is. whole_part (map cut_function) (λ one. done ++ one) (map cut_function) (functions place owner names around (first + types_in_functions fs) (written no_functions x)) (k ∷ []) (ks ++ k ∷ [])
-          (ap (λ n. with_part (map cut_function) (functions place owner names around n (written no_functions x))) (sym counted) ∙ h)
-          (λ one e. map-append cut_function done one ∙ rw (is, e) refl))
+      (λ done is. whole_part (map cut_function) (λ one. done ++ one) (map cut_function) (functions place owner names around (first + types_in_functions fs) (written no_functions x)) (k ∷ []) (ks ++ k ∷ [])
+      (ap (λ n. with_part (map cut_function) (functions place owner names around n (written no_functions x))) (sym counted) ∙ h)
+      (λ one e. map-append cut_function done one ∙ rw (is, e) refl))

@@ -2,7 +2,7 @@
 use Rattle.std.proofs.Common.{◌≡◌, sym, ap}
 use Rattle.std.specs.Option.{option_map}
 use Rattle.gal_grammar.specs.Terms as S
-use Rattle.gal_raw.specs.Denotes.{tree, identifier, functions, fix_of}
+use Rattle.gal_raw.specs.Denotes.{identifier, functions, fix_of}
 use Rattle.gal_raw.specs.declared.terms.FixOf.{FixOf, FixOf', out-FixOf, outs-FixOf'}
 
 pub fix_parts : (x : FixOf) → fix_of x ≡ S.fix_of (functions (out-FixOf x).functions) (option_map identifier (out-FixOf x).chosen)

@@ -8,3 +8,4 @@ pub mod Matching
 pub mod Names
 pub mod Held
 pub mod Branches
+pub mod Limits

@@ -1,6 +1,6 @@
 -- What stands between two arguments, groups or functions of a list that is read.
-use Rattle.std.proofs.Common.{◌≡◌, ℕ, ◌+◌, ◌*◌, ◌<◌, ◌≤◌, List, [], ◌∷◌, ◌++◌, map, reverse, refl, sym, ap, ◌∙◌, arith}
-use Rattle.std.specs.Prelude.{Option, Some, None, Ok, Err}
+use Rattle.std.proofs.Common.{◌≡◌, ℕ, ◌+◌, ◌<◌, ◌≤◌, List, [], ◌∷◌, ◌++◌, map, reverse, sym, ap, ◌∙◌, arith}
+use Rattle.std.specs.Prelude.{Option, Ok, Err}
 use Rattle.cic_terms.specs.Tree.{Tree}
 use Rattle.gal_grammar.specs.Terms as S
 use Rattle.gal_grammar.specs.Terms.{Groups, group, no_groups, Functions, no_functions}
@@ -22,7 +22,6 @@ use Rattle.elab_terms.proofs.Formers.{argument_facts, group_facts, applied_fault
 use Rattle.elab_terms.proofs.Functions.{function_smaller, alone_types, function_fault, function_more}
 
 module _ (place : Place) (owner : Owner) (around : Around) (first : ℕ) where
-
   -- arguments
   pub record ArgumentsSoFar (whole : S.Raw) (rest : List Raw) (made : Option Tree) (around' : Around) (first' : ℕ) : Type 0 where
     pub past : S.Raw

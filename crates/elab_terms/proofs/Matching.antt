@@ -1,5 +1,5 @@
 -- What is read of a match, from what is read of its parts.
-use Rattle.std.proofs.Common.{◌≡◌, ℕ, ◌+◌, ◌<◌, ◌≤◌, List, [], ◌∷◌, ◌++◌, map, reverse, length, refl, sym, ap, ◌∙◌, arith}
+use Rattle.std.proofs.Common.{◌≡◌, ℕ, ◌+◌, List, ◌∷◌, refl, sym, ap, ◌∙◌}
 use Rattle.std.specs.Prelude.{Option, Some, None, Ok, Err, is_none, is_some, false, Bool}
 use Rattle.std.specs.Option.{option_map}
 use Rattle.std.specs.Result.{is_err}
@@ -8,16 +8,12 @@ use Rattle.memory.specs.Telling.{OrNoMemory}
 use Rattle.cic_terms.specs.Tree.{Tree}
 use Rattle.gal_grammar.specs.Terms as S
 use Rattle.gal_grammar.specs.Terms.{Binder, Within, Branches, no_branches, branch, Qual}
-use Rattle.gal_raw.specs.Denotes.{tree, qualified, binder}
-use Rattle.gal_raw.specs.calls.Lists.{branch_list}
-use Rattle.gal_raw.specs.declared.terms.Branch.{Branch}
 use Rattle.gal_scoping.specs.Readings.{Fault, Reading, after, with_part}
-use Rattle.gal_scoping.specs.Names.{Around, Place, binder_name}
-use Rattle.gal_scoping.specs.Levels.{Owner, types_in, types_in_branches}
-use Rattle.gal_scoping.specs.Matches.{MatchedType, matched_type, value_name, around_motive, type_and_motive, ReadBranch, Pattern, pattern_read, around_branch, with_branch, case_of}
+use Rattle.gal_scoping.specs.Names.{Around, Place}
+use Rattle.gal_scoping.specs.Levels.{Owner, types_in}
+use Rattle.gal_scoping.specs.Matches.{MatchedType, matched_type, value_name, around_motive, type_and_motive, case_of}
 use Rattle.gal_scoping.specs.Terms.{term, branches}
 use Rattle.elab_parts.specs.calls.Parts.{cut}
-use Rattle.elab_terms.specs.calls.Sizes.{size, size_branches}
 use Rattle.elab_terms.proofs.Steps.{after_fault, after_part}
 
 -- a fact that holds of an answer that is no fault
@@ -58,7 +54,6 @@ type_first : {B : Type 0} (m : Tree → B) (w : Within) (R : Reading MatchedType
 type_first m w R motive next e is = rw is refl
 
 module _ (place : Place) (owner : Owner) (around : Around) (first : ℕ) (v : S.Raw) (x : Option Binder) (i : Option Within) (m : S.Raw) (bs : Branches) where
-
   pub match_value_fault : (e : Fault) → with_part cut (term place owner around first v) ≡ Err e → with_part cut (term place owner around first (S.match_of v x i m bs)) ≡ Err e
   match_value_fault e h = after_fault cut _ cut (term place owner around first v) e h
 
@@ -67,8 +62,8 @@ module _ (place : Place) (owner : Owner) (around : Around) (first : ℕ) (v : S.
   match_type_fault_within kv w e told there is = rw there (
       after_part cut _ cut (term place owner around first v) kv (Err e) told
       (λ value _. type_first cut w (matched_type place around (Some w) bs)
-        (term place owner (around_motive around (matched_type place around (Some w) bs) (value_name v x)) (first + types_in v) m)
-        (λ type motive. after (branches place owner around (first + types_in v + types_in m) type bs) (case_of type value motive)) e (ap (λ z. matched_type place around z bs) (sym there) ∙ is)))
+      (term place owner (around_motive around (matched_type place around (Some w) bs) (value_name v x)) (first + types_in v) m)
+      (λ type motive. after (branches place owner around (first + types_in v + types_in m) type bs) (case_of type value motive)) e (ap (λ z. matched_type place around z bs) (sym there) ∙ is)))
 
   pub match_motive_fault_without : (kv : Option Tree) (around' : Around) (first' : ℕ) (e : Fault) → with_part cut (term place owner around first v) ≡ Ok kv → i ≡ None →
       around' ≡ around_motive around (matched_type place around i bs) (value_name v x) → first' ≡ first + types_in v →
@@ -76,7 +71,7 @@ module _ (place : Place) (owner : Owner) (around : Around) (first : ℕ) (v : S.
   match_motive_fault_without kv around' first' e told none at counted h =
       after_part cut _ cut (term place owner around first v) kv (Err e) told
       (λ value _. motive_first cut i (matched_type place around i bs) (term place owner (around_motive around (matched_type place around i bs) (value_name v x)) (first + types_in v) m) _ e none
-        (ap (λ z. with_part cut (term place owner z (first + types_in v) m)) (sym at) ∙ ap (λ z. with_part cut (term place owner around' z m)) (sym counted) ∙ h))
+      (ap (λ z. with_part cut (term place owner z (first + types_in v) m)) (sym at) ∙ ap (λ z. with_part cut (term place owner around' z m)) (sym counted) ∙ h))
 
   pub match_motive_fault : (kv : Option Tree) (t : MatchedType) (around' : Around) (first' : ℕ) (e : Fault) → with_part cut (term place owner around first v) ≡ Ok kv → matched_type place around i bs ≡ Ok t →
       around' ≡ around_motive around (Ok t) (value_name v x) → first' ≡ first + types_in v →
@@ -84,8 +79,8 @@ module _ (place : Place) (owner : Owner) (around : Around) (first : ℕ) (v : S.
   match_motive_fault kv t around' first' e told is at counted h =
       after_part cut _ cut (term place owner around first v) kv (Err e) told
       (λ value _. motive_then cut i t (matched_type place around i bs) (term place owner (around_motive around (matched_type place around i bs) (value_name v x)) (first + types_in v) m) _ e is
-        (ap (λ z. with_part cut (term place owner (around_motive around z (value_name v x)) (first + types_in v) m)) is
-        ∙ ap (λ z. with_part cut (term place owner z (first + types_in v) m)) (sym at) ∙ ap (λ z. with_part cut (term place owner around' z m)) (sym counted) ∙ h))
+      (ap (λ z. with_part cut (term place owner (around_motive around z (value_name v x)) (first + types_in v) m)) is
+      ∙ ap (λ z. with_part cut (term place owner z (first + types_in v) m)) (sym at) ∙ ap (λ z. with_part cut (term place owner around' z m)) (sym counted) ∙ h))
 
   pub match_type_fault_without : (kv km : Option Tree) (around' : Around) (first' : ℕ) (e : Fault) → with_part cut (term place owner around first v) ≡ Ok kv → i ≡ None →
       matched_type place around i bs ≡ Err e → around' ≡ around_motive around (Err e) (value_name v x) → first' ≡ first + types_in v →
@@ -93,9 +88,9 @@ module _ (place : Place) (owner : Owner) (around : Around) (first : ℕ) (v : S.
   match_type_fault_without kv km around' first' e told none is at counted h = rw none (
       after_part cut _ cut (term place owner around first v) kv (Err e) told
       (λ value _. type_last cut (matched_type place around None bs) (term place owner (around_motive around (matched_type place around None bs) (value_name v x)) (first + types_in v) m) _ km e
-        (ap (λ z. matched_type place around z bs) (sym none) ∙ is)
-        (ap (λ z. with_part cut (term place owner (around_motive around z (value_name v x)) (first + types_in v) m)) (ap (λ z. matched_type place around z bs) (sym none) ∙ is)
-        ∙ ap (λ z. with_part cut (term place owner z (first + types_in v) m)) (sym at) ∙ ap (λ z. with_part cut (term place owner around' z m)) (sym counted) ∙ h)))
+      (ap (λ z. matched_type place around z bs) (sym none) ∙ is)
+      (ap (λ z. with_part cut (term place owner (around_motive around z (value_name v x)) (first + types_in v) m)) (ap (λ z. matched_type place around z bs) (sym none) ∙ is)
+      ∙ ap (λ z. with_part cut (term place owner z (first + types_in v) m)) (sym at) ∙ ap (λ z. with_part cut (term place owner around' z m)) (sym counted) ∙ h)))
 
   -- the branches, and what is made of all
   pub match_read : (kv km : Option Tree) (t : MatchedType) (around' around'' : Around) (first' first'' : ℕ) (d : Reading (Option Tree)) → with_part cut (term place owner around first v) ≡ Ok kv →
@@ -107,7 +102,7 @@ module _ (place : Place) (owner : Owner) (around : Around) (first : ℕ) (v : S.
       let count : first'' ≡ first + types_in v + types_in m = counted' ∙ ap (λ z. z + types_in m) counted in
       after_part cut _ cut (term place owner around first v) kv d told
       (λ value ev. both_read cut i t (matched_type place around i bs) (term place owner (around_motive around (matched_type place around i bs) (value_name v x)) (first + types_in v) m) _ km d is
-        (ap (λ z. with_part cut (term place owner (around_motive around z (value_name v x)) (first + types_in v) m)) is
-        ∙ ap (λ z. with_part cut (term place owner z (first + types_in v) m)) (sym at) ∙ ap (λ z. with_part cut (term place owner around' z m)) (sym counted) ∙ h)
-        (λ motive em. ap (λ z. with_part cut (after (branches place owner z (first + types_in v + types_in m) t bs) (case_of t value motive))) (sym same)
-          ∙ ap (λ z. with_part cut (after (branches place owner around'' z t bs) (case_of t value motive))) (sym count) ∙ k value motive ev em))
+      (ap (λ z. with_part cut (term place owner (around_motive around z (value_name v x)) (first + types_in v) m)) is
+      ∙ ap (λ z. with_part cut (term place owner z (first + types_in v) m)) (sym at) ∙ ap (λ z. with_part cut (term place owner around' z m)) (sym counted) ∙ h)
+      (λ motive em. ap (λ z. with_part cut (after (branches place owner z (first + types_in v + types_in m) t bs) (case_of t value motive))) (sym same)
+      ∙ ap (λ z. with_part cut (after (branches place owner around'' z t bs) (case_of t value motive))) (sym count) ∙ k value motive ev em))

@@ -1,7 +1,6 @@
 -- The names of the functions of a list.
-use Rattle.std.proofs.Common.{◌≡◌, ℕ, List, [], ◌∷◌, ◌++◌, refl, sym, ap, ◌∙◌}
-use Rattle.std.specs.Prelude.{Option, Some, None}
-use Rattle.gal_grammar.specs.Terms as S
+use Rattle.std.proofs.Common.{◌≡◌, ℕ, List, [], ◌∷◌, ◌++◌, sym, ap, ◌∙◌}
+use Rattle.std.specs.Prelude.{Option, Some}
 use Rattle.gal_grammar.specs.Terms.{Functions, no_functions}
 use Rattle.gal_raw.specs.Denotes.{function as written}
 use Rattle.gal_raw.specs.calls.Lists.{function_list}

@@ -1,12 +1,11 @@
 -- What is read of parts, and of what is made of them.
-use Rattle.std.proofs.Common.{◌≡◌, ℕ, ◌+◌, ◌≤◌, List, [], ◌∷◌, ◌++◌, map, reverse, max, refl, sym, ap, subst, ◌∙◌, ◌⊎◌, inl, inr, arith}
+use Rattle.std.proofs.Common.{◌≡◌, ℕ, ◌+◌, ◌≤◌, List, [], ◌∷◌, ◌++◌, map, reverse, refl, sym, ap, ◌∙◌, inl, inr, arith}
 use Rattle.std.specs.Prelude.{Option, Some, None, Ok, Err}
 use Rattle.std.proofs.lemmas.List.{map-append}
-use Rattle.cic_terms.specs.Tree.{Tree, rel, node, Children, no_child, child, over, prod, lam, let_in}
+use Rattle.cic_terms.specs.Tree.{Tree, rel, node, Children, no_child, child, over, let_in}
 use Rattle.cic_terms.specs.Lift.{lift_tree, lift_children}
-use Rattle.cic_terms.specs.Sizes.{Fits, depth_tree, max_rel, max_rel_children}
+use Rattle.cic_terms.specs.Sizes.{Fits, max_rel, max_rel_children}
 use Rattle.cic_rules.specs.Telescopes.{products, abstractions}
-use Rattle.gal_grammar.specs.Terms as S
 use Rattle.gal_grammar.specs.Terms.{Binder}
 use Rattle.gal_scoping.specs.Readings.{Fault, Reading, after, with_part, with_parts}
 use Rattle.gal_scoping.specs.Names.{Around}
@@ -17,7 +16,7 @@ use Rattle.elab_parts.specs.declared.binding.Binding.{Binding as HeldBinding}
 use Rattle.elab_parts.specs.declared.fault.ScopingFault.{ScopingFault}
 use Rattle.elab_parts.specs.declared.fault.ScopingFault.TheVariants as F
 use Rattle.elab_parts.specs.declared.making.Pair.{Pair}
-use Rattle.elab_parts.specs.declared.making.Pair.TheVariants.{Product, Abstraction, Application}
+use Rattle.elab_parts.specs.declared.making.Pair.TheVariants.{Product, Abstraction}
 use Rattle.elab_parts.specs.calls.Parts.{known, cut, of_two, of_three, lifted, pair_tree}
 use Rattle.elab_parts.specs.calls.Bindings.{KnownBinding, known_binding, cut_binding, bindings_known, over_all, known_inside}
 use Rattle.elab_parts.specs.calls.Readings.{Reads}
@@ -90,10 +89,12 @@ of_two_none make (Some a) = refl
 
 pub cut_pair : (kind : Pair) (a b : Tree) → of_two (pair_tree kind) (cut a) (cut b) ≡ cut (pair_tree kind a b)
 cut_pair kind a b = elim (cut_is a) [
-    inl p ↦ elim (cut_is b) [
-      inl q ↦ rw (p.0, q.0) refl
-    | inr q ↦ rw q.0 (of_two_none (pair_tree kind) (cut a) ∙ sym (cut_unfit (pair_tree kind a b) (λ f. q.1 (right_fits kind a b f)))) ]
-  | inr p ↦ rw p.0 (sym (cut_unfit (pair_tree kind a b) (λ f. p.1 (left_fits kind a b f)))) ]
+  | inl p ↦ elim (cut_is b) [
+    | inl q ↦ rw (p.0, q.0) refl
+    | inr q ↦ rw q.0 (of_two_none (pair_tree kind) (cut a) ∙ sym (cut_unfit (pair_tree kind a b) (λ f. q.1 (right_fits kind a b f))))
+  ]
+  | inr p ↦ rw p.0 (sym (cut_unfit (pair_tree kind a b) (λ f. p.1 (left_fits kind a b f))))
+]
 
 pub cut_over : (kind : Pair) (make : List Tree → Tree → Tree) → ((t : Tree) → make [] t ≡ t) → ((a : Tree) (ds : List Tree) (t : Tree) → make (a ∷ ds) t ≡ pair_tree kind a (make ds t)) →
     (bs : List Binding) (t : Tree) → over_all (pair_tree kind) (map cut_binding bs) (cut t) ≡ cut (make (domains bs) t)
@@ -118,8 +119,9 @@ mutual
 
 cut_lifted : (by : ℕ) (t : Tree) → cut (lift_tree 0 by t) ≡ lifted by (cut t)
 cut_lifted by t = elim (cut_is t) [
-    inl p ↦ rw p.0 refl
-  | inr p ↦ rw p.0 (cut_unfit (lift_tree 0 by t) (λ f. p.1 (record { depth = omega (arith, lifted_depth 0 by t, f.depth); rels = omega (arith, lifted_rels 0 by t, f.rels) }))) ]
+  | inl p ↦ rw p.0 refl
+  | inr p ↦ rw p.0 (cut_unfit (lift_tree 0 by t) (λ f. p.1 (record { depth = omega (arith, lifted_depth 0 by t, f.depth); rels = omega (arith, lifted_rels 0 by t, f.rels) })))
+]
 
 group_cut : (passed : ℕ) (xs : List Binder) (t : Tree) → map cut_binding (bindings_from passed xs t) ≡ bindings_known passed xs (cut t)
 group_cut passed [] t = refl
@@ -156,9 +158,12 @@ second_none make (Some a) c = refl
 
 pub cut_let : (t a u : Tree) → of_three (λ t a u. let_in t a u) (cut t) (cut a) (cut u) ≡ cut (let_in t a u)
 cut_let t a u = elim (cut_is t) [
-    inl p ↦ elim (cut_is a) [
-      inl q ↦ elim (cut_is u) [
-        inl r ↦ rw (p.0, q.0, r.0) refl
-      | inr r ↦ rw r.0 (third_none (λ t a u. let_in t a u) (cut t) (cut a) ∙ sym (cut_unfit (let_in t a u) (λ f. r.1 (third_of_let t a u f)))) ]
-    | inr q ↦ rw q.0 (second_none (λ t a u. let_in t a u) (cut t) (cut u) ∙ sym (cut_unfit (let_in t a u) (λ f. q.1 (second_of_let t a u f)))) ]
-  | inr p ↦ rw p.0 (sym (cut_unfit (let_in t a u) (λ f. p.1 (first_of_let t a u f)))) ]
+  | inl p ↦ elim (cut_is a) [
+    | inl q ↦ elim (cut_is u) [
+      | inl r ↦ rw (p.0, q.0, r.0) refl
+      | inr r ↦ rw r.0 (third_none (λ t a u. let_in t a u) (cut t) (cut a) ∙ sym (cut_unfit (let_in t a u) (λ f. r.1 (third_of_let t a u f))))
+    ]
+    | inr q ↦ rw q.0 (second_none (λ t a u. let_in t a u) (cut t) (cut u) ∙ sym (cut_unfit (let_in t a u) (λ f. q.1 (second_of_let t a u f))))
+  ]
+  | inr p ↦ rw p.0 (sym (cut_unfit (let_in t a u) (λ f. p.1 (first_of_let t a u f))))
+]

@@ -1,2 +1,3 @@
--- What the calls answer.
+-- What reading a term answers.
+pub mod Elaboration
 pub mod calls

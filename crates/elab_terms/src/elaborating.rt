@@ -23,13 +23,13 @@ ghost use Rattle.elab_terms.specs.calls.Walks.{ReadsTerm, ReadsGroups, ReadsFunc
 
 use crate::bare::bare;
 use cic_names::Sort;
+use elab_matches::{
+    Done, MatchedType, add_branch, case_of, matched_type, pattern_read, value_name,
+};
 use elab_parts::{
     Around, Binding, Pair, Part, Place, ReadFunction, ScopingFault, add_group, anonymous_level,
     binder_names, chosen_function, enter_all, fix_term, level_term, make_let, make_pair, name_term,
     over, sort, structural_place,
-};
-use elab_matches::{
-    Done, MatchedType, add_branch, case_of, matched_type, pattern_read, value_name,
 };
 use gal_raw::{
     Application, ArrowOf, Branches, FixOf, Function, Functions, Groups, LetIn, MatchOf, Raw,
@@ -51,10 +51,7 @@ fn next_level(alloc: Global, place: &Place<'_>, next: &mut u32) -> Result<Part, 
 }
 
 /// The names of functions.
-fn function_names<'a>(
-    alloc: Global,
-    all: &Functions<'a>,
-) -> Result<Vec<Option<&'a [u8]>>, NoMemory>
+fn function_names<'a>(alloc: Global, all: &Functions<'a>) -> Result<Vec<Option<&'a [u8]>>, NoMemory>
     ensures { IfOk result (λ names. map option_copied names.items ≡ function_names (functions all.now)) }
 {
     let mut names = Vec::new(alloc);
@@ -65,9 +62,10 @@ fn function_names<'a>(
     Ok(names)
 }
 
-/// Reads a term.
+/// Reads a term at a place, under the binders around it, which stay. `next` is the number of the next anonymous level.
+/// None: the term is past the limits of a term. Coq Reference Manual, "Terms".
 #[cycle(read)]
-pub(crate) fn term<'a>(
+pub fn term<'a>(
     alloc: Global,
     place: &Place<'_>,
     around: &mut Around<'a>,
@@ -140,9 +138,9 @@ fn arrow<'a>(
     Ok(make_pair(alloc, Pair::Product, &from, &to)?)
 }
 
-/// Reads the binders of groups, and enters them.
+/// Reads the binders of groups, and enters them. A binder without a type has one that is past the limits.
 #[cycle(read)]
-fn telescope<'a>(
+pub fn telescope<'a>(
     alloc: Global,
     place: &Place<'_>,
     around: &mut Around<'a>,
@@ -232,7 +230,7 @@ fn fixpoint<'a>(
 
 /// Reads functions of these names.
 #[cycle(read)]
-fn several<'a>(
+pub fn several<'a>(
     alloc: Global,
     place: &Place<'_>,
     names: &[Option<&'a [u8]>],
@@ -361,8 +359,7 @@ fn arms<'a>(
     let written = all.as_slice();
     for branch in written {
         let outside = around.len();
-        let pattern =
-            pattern_read(place, around, ty, &done, &branch.constructor, &branch.names)?;
+        let pattern = pattern_read(place, around, ty, &done, &branch.constructor, &branch.names)?;
         pattern.enter(around)?;
         let body = term(alloc, place, around, next, &branch.body)?;
         around.leave(outside);

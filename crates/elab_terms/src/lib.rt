@@ -4,3 +4,7 @@
 
 mod bare;
 mod elaborating;
+mod reading;
+
+pub use elaborating::{several, telescope, term};
+pub use reading::{ElabFault, elab_term};

@@ -1,5 +1,5 @@
 -- What each call reads, from what the calls on its parts read.
-use Rattle.std.proofs.Common.{◌≡◌, ℕ, ◌+◌, ◌*◌, ◌<◌, List, [], ◌∷◌, ◌++◌, map, reverse, drop, length, refl, sym, ap, subst, ◌∙◌, arith, OnOk}
+use Rattle.std.proofs.Common.{◌≡◌, ◌+◌, [], ◌∷◌, ◌++◌, map, reverse, sym, ap, subst, ◌∙◌, arith, OnOk}
 use Rattle.std.specs.Prelude.{Some, None, Ok, Err}
 use Rattle.memory.specs.Telling.{OrNoMemory}
 use Rattle.elab_parts.specs.Faults.{fault}
@@ -7,14 +7,10 @@ use Rattle.std.specs.Option.{option_map, option_copied}
 use Rattle.std.proofs.lemmas.Option.{IfSome_then}
 use Rattle.std.proofs.lemmas.List.{map-append}
 use Rattle.std.proofs.lemmas.Result.{err_from_is_err_and}
-use Rattle.cic_terms.specs.Tree as T
 use Rattle.cic_terms.proofs.Children.{drop_at}
-use Rattle.gal_grammar.specs.Terms as S
-use Rattle.gal_raw.specs.Denotes.{tree, identifier, binder, groups, functions, function, application, let_in, fix_of, match_of, branches, within, qualified}
-use Rattle.gal_raw.specs.declared.terms.Raw.{Application as Applied}
+use Rattle.gal_raw.specs.Denotes.{tree, identifier, binder, groups, functions, application, match_of, branches, within, qualified}
 use Rattle.gal_raw.specs.declared.terms.LetIn.{out-LetIn}
 use Rattle.gal_raw.specs.declared.terms.FixOf.{out-FixOf}
-use Rattle.gal_raw.specs.declared.terms.Function.{out-Function}
 use Rattle.gal_raw.proofs.Rows.{application_roll}
 use Rattle.gal_scoping.specs.Readings.{with_part}
 use Rattle.gal_scoping.specs.Names.{text_of, binder_name}
@@ -35,7 +31,7 @@ use Rattle.elab_terms.proofs.Fixpoints.{single_binders_fault, single_struct_faul
 use Rattle.elab_terms.proofs.Loops.{head_fault_here, argument_smaller_here, argument_fault_here, argument_more_here, group_smaller_here, group_fault_here, group_more_here, function_smaller_here, function_fault_here, function_more_here}
 use Rattle.elab_terms.proofs.Held.{fix_parts}
 use Rattle.elab_terms.proofs.Steps.{after_fault, after_part}
-use Rattle.elab_terms.proofs.Matching.{match_value_fault, match_type_fault_within, match_motive_fault_without, match_motive_fault, match_type_fault_without, match_read, ok_then, none_behind, motive_outside}
+use Rattle.elab_terms.proofs.Matching.{match_value_fault, match_motive_fault_without, match_motive_fault, match_type_fault_without, match_read, ok_then, none_behind, motive_outside}
 use Rattle.elab_terms.proofs.Branches.{left_branch, left_motive, beside, branch_smaller_here, pattern_fault_here, branch_fault_here, branch_more_here}
 use Rattle.elab_matches.specs.Matches.{type_of, pattern_of}
 use Rattle.elab_matches.specs.calls.Branches.{done_of, cut_branch, known_pattern}
@@ -51,7 +47,7 @@ applied-returns-in_err-made-clause-read t c =
     let p = err_from_is_err_and c.from_residual.result c.from_residual.ensures.1 in
     let told : OrNoMemory (fault c.in_err-made.field-0.0) (λ f. with_part cut (term (place_of c.args.place.now) (owner_of c.args.place.now) (around_of c.args.around.now) c.args.next.now (tree c.deref.result.now)) ≡ Err f) = c.in_err-made.ensures.read in
     rw (p.1, p.2) (IfSome_then (fault c.in_err-made.field-0.0) told (λ f (h : with_part cut (term (place_of c.args.place.now) (owner_of c.args.place.now) (around_of c.args.around.now) c.args.next.now (tree c.deref.result.now)) ≡ Err f).
-      head_fault_here (place_of c.args.place.now) (owner_of c.args.place.now) (around_of c.args.around.now) c.args.next.now (application c.args.x.now) (tree c.args.x.now.head.value) c.arguments-arguments.result.now f c.arguments-arguments.ensures (ap (λ z. with_part cut (term (place_of c.args.place.now) (owner_of c.args.place.now) (around_of c.args.around.now) c.args.next.now (tree z))) (sym c.deref.ensures) ∙ h)))
+    head_fault_here (place_of c.args.place.now) (owner_of c.args.place.now) (around_of c.args.around.now) c.args.next.now (application c.args.x.now) (tree c.args.x.now.head.value) c.arguments-arguments.result.now f c.arguments-arguments.ensures (ap (λ z. with_part cut (term (place_of c.args.place.now) (owner_of c.args.place.now) (around_of c.args.around.now) c.args.next.now (tree z))) (sym c.deref.ensures) ∙ h)))
 
 pub applied-term-requires-in-loop-argument : goal.applied-term-requires-in-loop-argument
 applied-term-requires-in-loop-argument t c =
@@ -90,8 +86,8 @@ bound-returns-in_err-inner-clause-read t c =
 pub bound-returns-clause-read : goal.bound-returns-clause-read
 bound-returns-clause-read t c =
     over_whole (place_of c.args.place.now) (owner_of c.args.place.now) (around_of c.args.around.now) c.args.next.now c.args.kind (groups c.args.among.now) (tree c.args.body.now) (map known_binding c.in_ok-binders.binders.items) (around_of c.telescope.new.around) c.telescope.new.next (known c.in_ok-inner.inner) (known c.in_ok-over.field-0) c.requires.kind
-      c.in_ok-binders.ensures.read c.in_ok-binders.ensures.around c.in_ok-binders.ensures.next c.in_ok-inner.ensures.read
-      (c.in_ok-over.ensures ∙ ap (λ ys. over_all (pair_tree c.args.kind) (map known_binding ys) (known c.in_ok-inner.inner)) c.deref.ensures.value)
+    c.in_ok-binders.ensures.read c.in_ok-binders.ensures.around c.in_ok-binders.ensures.next c.in_ok-inner.ensures.read
+    (c.in_ok-over.ensures ∙ ap (λ ys. over_all (pair_tree c.args.kind) (map known_binding ys) (known c.in_ok-inner.inner)) c.deref.ensures.value)
 
 pub definition-returns-in_err-binders-clause-read : goal.definition-returns-in_err-binders-clause-read
 definition-returns-in_err-binders-clause-read t c =
@@ -125,11 +121,11 @@ definition-returns-clause-read t c =
     let left = c.leave.ensures ∙ left_inside (map known_binding c.in_ok-binders.binders.items) (around_of c.args.around.now) (around_of c.term-2.new.around) c.len-outside.result c.len-outside.ensures (c.in_ok-body.ensures.around ∙ c.in_ok-ty.ensures.around ∙ c.in_ok-binders.ensures.around) in
     let entered = c.in_ok-enter.ensures ∙ ap (λ z. Some (text_of (identifier r.name)) ∷ z) left in
     ap (λ z. with_part cut (term (place_of c.args.place.now) (owner_of c.args.place.now) (around_of c.args.around.now) c.args.next.now z)) (let_parts c.args.x.now) ∙ let_whole (place_of c.args.place.now) (owner_of c.args.place.now) (around_of c.args.around.now) c.args.next.now (identifier r.name) (groups r.groups) (tree r.ty) (tree r.body) (tree r.rest) (map known_binding c.in_ok-binders.binders.items) (around_of c.telescope.new.around) (around_of c.term.new.around) (around_of c.enter.new.self) c.telescope.new.next c.term.new.next c.term-2.new.next
-      (known c.in_ok-ty.ty) (known c.in_ok-body.body) (known c.in_ok-rest.rest) (known c.in_ok-ty-2.ty) (known c.in_ok-body-2.body) (known c.in_ok-make_let.field-0)
-      c.in_ok-binders.ensures.read c.in_ok-binders.ensures.around c.in_ok-binders.ensures.next c.in_ok-ty.ensures.read c.in_ok-ty.ensures.around c.in_ok-ty.ensures.next c.in_ok-body.ensures.read entered c.in_ok-body.ensures.next c.in_ok-rest.ensures.read
-      (c.in_ok-ty-2.ensures ∙ ap (λ ys. over_all (pair_tree Product) (map known_binding ys) (known c.in_ok-ty.ty)) c.deref.ensures.value)
-      (c.in_ok-body-2.ensures ∙ ap (λ ys. over_all (pair_tree Abstraction) (map known_binding ys) (known c.in_ok-body.body)) c.deref-2.ensures.value)
-      c.in_ok-make_let.ensures
+    (known c.in_ok-ty.ty) (known c.in_ok-body.body) (known c.in_ok-rest.rest) (known c.in_ok-ty-2.ty) (known c.in_ok-body-2.body) (known c.in_ok-make_let.field-0)
+    c.in_ok-binders.ensures.read c.in_ok-binders.ensures.around c.in_ok-binders.ensures.next c.in_ok-ty.ensures.read c.in_ok-ty.ensures.around c.in_ok-ty.ensures.next c.in_ok-body.ensures.read entered c.in_ok-body.ensures.next c.in_ok-rest.ensures.read
+    (c.in_ok-ty-2.ensures ∙ ap (λ ys. over_all (pair_tree Product) (map known_binding ys) (known c.in_ok-ty.ty)) c.deref.ensures.value)
+    (c.in_ok-body-2.ensures ∙ ap (λ ys. over_all (pair_tree Abstraction) (map known_binding ys) (known c.in_ok-body.body)) c.deref-2.ensures.value)
+    c.in_ok-make_let.ensures
 
 pub definition-returns-clause-around : goal.definition-returns-clause-around
 definition-returns-clause-around t c =
@@ -145,7 +141,7 @@ fixpoint-returns-in_err-read-clause-read t c =
     let ns = map option_copied c.in_ok-names.names.items in
     let told : OrNoMemory (fault c.in_err-read.field-0.0) (λ f. with_part (map cut_function) (functions_read (place_of c.args.place.now) (owner_of c.args.place.now) (map option_copied c.deref.result.now) (around_of c.args.around.now) c.args.next.now (functions r.functions)) ≡ Err f) = c.in_err-read.ensures.read in
     rw (p.1, p.2) (IfSome_then (fault c.in_err-read.field-0.0) told (λ f (h : with_part (map cut_function) (functions_read (place_of c.args.place.now) (owner_of c.args.place.now) (map option_copied c.deref.result.now) (around_of c.args.around.now) c.args.next.now (functions r.functions)) ≡ Err f).
-      ap (λ z. with_part cut (term (place_of c.args.place.now) (owner_of c.args.place.now) (around_of c.args.around.now) c.args.next.now z)) (fix_parts c.args.x.now) ∙ fix_functions_fault (place_of c.args.place.now) (owner_of c.args.place.now) (around_of c.args.around.now) c.args.next.now (functions r.functions) (option_map identifier r.chosen) ns c.in_ok-names.ensures f (ap (λ z. with_part (map cut_function) (functions_read (place_of c.args.place.now) (owner_of c.args.place.now) (map option_copied z) (around_of c.args.around.now) c.args.next.now (functions r.functions))) (sym c.deref.ensures.value) ∙ h)))
+    ap (λ z. with_part cut (term (place_of c.args.place.now) (owner_of c.args.place.now) (around_of c.args.around.now) c.args.next.now z)) (fix_parts c.args.x.now) ∙ fix_functions_fault (place_of c.args.place.now) (owner_of c.args.place.now) (around_of c.args.around.now) c.args.next.now (functions r.functions) (option_map identifier r.chosen) ns c.in_ok-names.ensures f (ap (λ z. with_part (map cut_function) (functions_read (place_of c.args.place.now) (owner_of c.args.place.now) (map option_copied z) (around_of c.args.around.now) c.args.next.now (functions r.functions))) (sym c.deref.ensures.value) ∙ h)))
 
 pub fixpoint-returns-in_err-which-clause-read : goal.fixpoint-returns-in_err-which-clause-read
 fixpoint-returns-in_err-which-clause-read t c =
@@ -159,9 +155,9 @@ fixpoint-returns-clause-read t c =
     let r = out-FixOf c.args.x.now in
     let ns = map option_copied c.in_ok-names.names.items in
     ap (λ z. with_part cut (term (place_of c.args.place.now) (owner_of c.args.place.now) (around_of c.args.around.now) c.args.next.now z)) (fix_parts c.args.x.now) ∙ fix_whole (place_of c.args.place.now) (owner_of c.args.place.now) (around_of c.args.around.now) c.args.next.now (functions r.functions) (option_map identifier r.chosen) ns c.in_ok-names.ensures (map known_function c.in_ok-read.read.items) c.in_ok-which.which (known c.in_ok-fix_term.field-0)
-      (ap (λ z. with_part (map cut_function) (functions_read (place_of c.args.place.now) (owner_of c.args.place.now) (map option_copied z) (around_of c.args.around.now) c.args.next.now (functions r.functions))) (sym c.deref.ensures.value) ∙ c.in_ok-read.ensures.read)
-      (ap (λ z. function_meant (option_map identifier r.chosen) (map option_copied z)) (sym c.deref-2.ensures.value) ∙ c.in_ok-which.ensures)
-      (c.in_ok-fix_term.ensures ∙ ap (λ ys. known_fix (place_of c.args.place.now).environment (map known_function ys) c.in_ok-which.which) c.deref-3.ensures.value)
+    (ap (λ z. with_part (map cut_function) (functions_read (place_of c.args.place.now) (owner_of c.args.place.now) (map option_copied z) (around_of c.args.around.now) c.args.next.now (functions r.functions))) (sym c.deref.ensures.value) ∙ c.in_ok-read.ensures.read)
+    (ap (λ z. function_meant (option_map identifier r.chosen) (map option_copied z)) (sym c.deref-2.ensures.value) ∙ c.in_ok-which.ensures)
+    (c.in_ok-fix_term.ensures ∙ ap (λ ys. known_fix (place_of c.args.place.now).environment (map known_function ys) c.in_ok-which.which) c.deref-3.ensures.value)
 
 pub several-single-requires : goal.several-single-requires
 several-single-requires t c =
@@ -181,7 +177,7 @@ several-loop-one-preserved t c =
     let x = c.one-item.result in
     let at = drop_at c.as_slice-written.result.now c.loop-one.one-index x c.loop-one-test.true c.one-item.is in
     function_more_here (place_of c.args.place.now) (owner_of c.args.place.now) (around_of c.args.around.now) c.args.next.now (map option_copied c.args.names.now) (functions c.args.all.now) _ _ x _ _ (known_function c.in_ok-read.read) _ _ _ _ c.loop-one.invariant at c.in_ok-read.ensures.read
-      (ap (map known_function) c.in_ok-push.ensures.items ∙ map-append known_function c.loop-one.done.items (c.in_ok-read.read ∷ [])) c.in_ok-read.ensures.around c.in_ok-read.ensures.next
+    (ap (map known_function) c.in_ok-push.ensures.items ∙ map-append known_function c.loop-one.done.items (c.in_ok-read.read ∷ [])) c.in_ok-read.ensures.around c.in_ok-read.ensures.next
 
 pub single-returns-in_err-binders-clause-read : goal.single-returns-in_err-binders-clause-read
 single-returns-in_err-binders-clause-read t c =
@@ -256,10 +252,10 @@ telescope-loop-group-preserved t c =
     let x = c.group-item.result in
     let at = drop_at c.as_slice-all.result.now c.loop-group.group-index x c.loop-group-test.true c.group-item.is in
     group_more_here (place_of c.args.place.now) (owner_of c.args.place.now) (around_of c.args.around.now) c.args.next.now (groups c.args.among.now) _ _ x _ _ (known c.in_ok-ty.ty) _ (around_of c.term.new.around) _ _ _ c.loop-group.invariant at c.in_ok-ty.ensures.read
-      (c.in_ok-add_group.ensures.telescope ∙ ap (λ ys. map known_binding c.loop-group.binders.items ++ bindings_known 0 (map binder ys) (known c.in_ok-ty.ty)) c.deref.ensures.value)
-      c.in_ok-ty.ensures.around
-      (c.in_ok-add_group.ensures.around ∙ ap (λ ys. reverse (map binder_name (map binder ys)) ++ around_of c.term.new.around) c.deref.ensures.value)
-      c.in_ok-ty.ensures.next
+    (c.in_ok-add_group.ensures.telescope ∙ ap (λ ys. map known_binding c.loop-group.binders.items ++ bindings_known 0 (map binder ys) (known c.in_ok-ty.ty)) c.deref.ensures.value)
+    c.in_ok-ty.ensures.around
+    (c.in_ok-add_group.ensures.around ∙ ap (λ ys. reverse (map binder_name (map binder ys)) ++ around_of c.term.new.around) c.deref.ensures.value)
+    c.in_ok-ty.ensures.next
 
 pub term-applied-requires : goal.term-applied-requires
 term-applied-requires t c =
@@ -284,7 +280,7 @@ arms-returns-in_err-pattern-clause-read t c =
     let at = drop_at c.as_slice-written.result.now c.loop-branch.branch-index x c.loop-branch-test.true c.branch-item.is in
     let told : OrNoMemory (fault c.in_err-pattern.field-0.0) (λ f. known_pattern (place_of c.args.place.now) (around_of c.loop-branch.around) (type_of c.args.ty.now) (done_of c.loop-branch.done) (qualified c.branch-item.result.constructor) (map binder c.deref.result.now) ≡ Err f) = c.in_err-pattern.ensures in
     rw (p.1, p.2) (IfSome_then (fault c.in_err-pattern.field-0.0) told (λ f (h : known_pattern (place_of c.args.place.now) (around_of c.loop-branch.around) (type_of c.args.ty.now) (done_of c.loop-branch.done) (qualified c.branch-item.result.constructor) (map binder c.deref.result.now) ≡ Err f).
-      pattern_fault_here (place_of c.args.place.now) (owner_of c.args.place.now) (around_of c.args.around.now) c.args.next.now (type_of c.args.ty.now) (branches c.args.all.now) _ _ x _ _ _ c.loop-branch.invariant at f (ap (λ ys. known_pattern (place_of c.args.place.now) (around_of c.loop-branch.around) (type_of c.args.ty.now) (done_of c.loop-branch.done) (qualified c.branch-item.result.constructor) (map binder ys)) (sym c.deref.ensures.value) ∙ h)))
+    pattern_fault_here (place_of c.args.place.now) (owner_of c.args.place.now) (around_of c.args.around.now) c.args.next.now (type_of c.args.ty.now) (branches c.args.all.now) _ _ x _ _ _ c.loop-branch.invariant at f (ap (λ ys. known_pattern (place_of c.args.place.now) (around_of c.loop-branch.around) (type_of c.args.ty.now) (done_of c.loop-branch.done) (qualified c.branch-item.result.constructor) (map binder ys)) (sym c.deref.ensures.value) ∙ h)))
 
 pub arms-term-requires : goal.arms-term-requires
 arms-term-requires t c =
@@ -299,7 +295,7 @@ arms-returns-in_err-body-clause-read t c =
     let at = drop_at c.as_slice-written.result.now c.loop-branch.branch-index x c.loop-branch-test.true c.branch-item.is in
     let told : OrNoMemory (fault c.in_err-body.field-0.0) (λ f. with_part cut (term (place_of c.args.place.now) (owner_of c.args.place.now) (around_of c.enter.new.around) c.loop-branch.next (tree c.branch-item.result.body)) ≡ Err f) = c.in_err-body.ensures.read in
     rw (p.1, p.2) (IfSome_then (fault c.in_err-body.field-0.0) told (λ f (h : with_part cut (term (place_of c.args.place.now) (owner_of c.args.place.now) (around_of c.enter.new.around) c.loop-branch.next (tree c.branch-item.result.body)) ≡ Err f).
-      branch_fault_here (place_of c.args.place.now) (owner_of c.args.place.now) (around_of c.args.around.now) c.args.next.now (type_of c.args.ty.now) (branches c.args.all.now) _ _ x _ (pattern_of c.in_ok-pattern.pattern) _ (around_of c.enter.new.around) _ c.loop-branch.invariant at f (ap (λ ys. known_pattern (place_of c.args.place.now) (around_of c.loop-branch.around) (type_of c.args.ty.now) (done_of c.loop-branch.done) (qualified c.branch-item.result.constructor) (map binder ys)) (sym c.deref.ensures.value) ∙ c.in_ok-pattern.ensures) c.in_ok-enter.ensures h))
+    branch_fault_here (place_of c.args.place.now) (owner_of c.args.place.now) (around_of c.args.around.now) c.args.next.now (type_of c.args.ty.now) (branches c.args.all.now) _ _ x _ (pattern_of c.in_ok-pattern.pattern) _ (around_of c.enter.new.around) _ c.loop-branch.invariant at f (ap (λ ys. known_pattern (place_of c.args.place.now) (around_of c.loop-branch.around) (type_of c.args.ty.now) (done_of c.loop-branch.done) (qualified c.branch-item.result.constructor) (map binder ys)) (sym c.deref.ensures.value) ∙ c.in_ok-pattern.ensures) c.in_ok-enter.ensures h))
 
 pub arms-loop-branch-preserved : goal.arms-loop-branch-preserved
 arms-loop-branch-preserved t c =
@@ -307,7 +303,7 @@ arms-loop-branch-preserved t c =
     let at = drop_at c.as_slice-written.result.now c.loop-branch.branch-index x c.loop-branch-test.true c.branch-item.is in
     let left = c.leave.ensures ∙ left_branch (pattern_of c.in_ok-pattern.pattern) (around_of c.loop-branch.around) (around_of c.term.new.around) c.len-outside.result c.len-outside.ensures (c.in_ok-body.ensures.around ∙ c.in_ok-enter.ensures) in
     branch_more_here (place_of c.args.place.now) (owner_of c.args.place.now) (around_of c.args.around.now) c.args.next.now (type_of c.args.ty.now) (branches c.args.all.now) _ _ x _ _ (pattern_of c.in_ok-pattern.pattern) (known c.in_ok-body.body) _ (around_of c.enter.new.around) _ _ _ c.loop-branch.invariant at (ap (λ ys. known_pattern (place_of c.args.place.now) (around_of c.loop-branch.around) (type_of c.args.ty.now) (done_of c.loop-branch.done) (qualified c.branch-item.result.constructor) (map binder ys)) (sym c.deref.ensures.value) ∙ c.in_ok-pattern.ensures)
-      c.in_ok-enter.ensures c.in_ok-body.ensures.read c.in_ok-add_branch.ensures left c.in_ok-body.ensures.next
+    c.in_ok-enter.ensures c.in_ok-body.ensures.read c.in_ok-add_branch.ensures left c.in_ok-body.ensures.next
 
 pub case-returns-in_err-value-clause-read : goal.case-returns-in_err-value-clause-read
 case-returns-in_err-value-clause-read t c =
@@ -315,7 +311,7 @@ case-returns-in_err-value-clause-read t c =
     let r = out-MatchOf c.args.x.now in
     let told : OrNoMemory (fault c.in_err-value.field-0.0) (λ f. with_part cut (term (place_of c.args.place.now) (owner_of c.args.place.now) (around_of c.args.around.now) c.args.next.now (tree r.value)) ≡ Err f) = c.in_err-value.ensures.read in
     rw (p.1, p.2) (IfSome_then (fault c.in_err-value.field-0.0) told (λ f (h : with_part cut (term (place_of c.args.place.now) (owner_of c.args.place.now) (around_of c.args.around.now) c.args.next.now (tree r.value)) ≡ Err f).
-      ap (λ z. with_part cut (term (place_of c.args.place.now) (owner_of c.args.place.now) (around_of c.args.around.now) c.args.next.now z)) (match_parts c.args.x.now) ∙ match_value_fault (place_of c.args.place.now) (owner_of c.args.place.now) (around_of c.args.around.now) c.args.next.now (tree r.value) (option_map binder r.name) (option_map within r.within) (tree r.motive) (branches r.branches) f h))
+    ap (λ z. with_part cut (term (place_of c.args.place.now) (owner_of c.args.place.now) (around_of c.args.around.now) c.args.next.now z)) (match_parts c.args.x.now) ∙ match_value_fault (place_of c.args.place.now) (owner_of c.args.place.now) (around_of c.args.around.now) c.args.next.now (tree r.value) (option_map binder r.name) (option_map within r.within) (tree r.motive) (branches r.branches) f h))
 
 pub case-first_fault-requires : goal.case-first_fault-requires
 case-first_fault-requires t c =
@@ -326,7 +322,7 @@ case-returns-in-Err-clause-read t c =
     let r = out-MatchOf c.args.x.now in
     let back = c.in_ok-value.ensures.around in
     subst (λ z. OrNoMemory (fault c.first_fault.result) (λ f. with_part cut (term (place_of c.args.place.now) (owner_of c.args.place.now) z c.args.next.now (match_of c.args.x.now)) ≡ Err f)) back
-      (c.first_fault.ensures c.args.next.now (known c.in_ok-value.value) (ap (λ z. with_part cut (term (place_of c.args.place.now) (owner_of c.args.place.now) z c.args.next.now (tree r.value))) back ∙ c.in_ok-value.ensures.read) c.in_ok-value.ensures.next)
+    (c.first_fault.ensures c.args.next.now (known c.in_ok-value.value) (ap (λ z. with_part cut (term (place_of c.args.place.now) (owner_of c.args.place.now) z c.args.next.now (tree r.value))) back ∙ c.in_ok-value.ensures.read) c.in_ok-value.ensures.next)
 
 pub case-returns-in_err-motive-clause-read : goal.case-returns-in_err-motive-clause-read
 case-returns-in_err-motive-clause-read t c =
@@ -337,7 +333,7 @@ case-returns-in_err-motive-clause-read t c =
     let at = c.in_ok-enter.ensures ∙ ap (λ z. around_motive z (Ok (type_of c.in-Ok.ty)) (option_copied c.value_name.result)) back ∙ ap (around_motive (around_of c.args.around.now) (Ok (type_of c.in-Ok.ty))) c.value_name.ensures in
     let told : OrNoMemory (fault c.in_err-motive.field-0.0) (λ f. with_part cut (term (place_of c.args.place.now) (owner_of c.args.place.now) (around_of c.enter.new.around) c.term.new.next (tree (out-MatchOf c.args.x.now).motive)) ≡ Err f) = c.in_err-motive.ensures.read in
     rw (p.1, p.2) (IfSome_then (fault c.in_err-motive.field-0.0) told (λ f (h : with_part cut (term (place_of c.args.place.now) (owner_of c.args.place.now) (around_of c.enter.new.around) c.term.new.next (tree (out-MatchOf c.args.x.now).motive)) ≡ Err f).
-      ap (λ z. with_part cut (term (place_of c.args.place.now) (owner_of c.args.place.now) (around_of c.args.around.now) c.args.next.now z)) (match_parts c.args.x.now) ∙ match_motive_fault (place_of c.args.place.now) (owner_of c.args.place.now) (around_of c.args.around.now) c.args.next.now (tree r.value) (option_map binder r.name) (option_map within r.within) (tree r.motive) (branches r.branches) (known c.in_ok-value.value) (type_of c.in-Ok.ty) (around_of c.enter.new.around) c.term.new.next f c.in_ok-value.ensures.read is at c.in_ok-value.ensures.next h))
+    ap (λ z. with_part cut (term (place_of c.args.place.now) (owner_of c.args.place.now) (around_of c.args.around.now) c.args.next.now z)) (match_parts c.args.x.now) ∙ match_motive_fault (place_of c.args.place.now) (owner_of c.args.place.now) (around_of c.args.around.now) c.args.next.now (tree r.value) (option_map binder r.name) (option_map within r.within) (tree r.motive) (branches r.branches) (known c.in_ok-value.value) (type_of c.in-Ok.ty) (around_of c.enter.new.around) c.term.new.next f c.in_ok-value.ensures.read is at c.in_ok-value.ensures.next h))
 
 pub case-returns-in_err-done-clause-read : goal.case-returns-in_err-done-clause-read
 case-returns-in_err-done-clause-read t c =
@@ -349,8 +345,8 @@ case-returns-in_err-done-clause-read t c =
     let left = c.leave.ensures ∙ left_motive (type_of c.in-Ok.ty) (value_name (tree r.value) (option_map binder r.name)) (around_of c.args.around.now) (around_of c.term-2.new.around) c.len-outside.result c.len-outside.ensures (c.in_ok-motive.ensures.around ∙ at) in
     let told : OrNoMemory (fault c.in_err-done.field-0.0) (λ f. with_part (map cut_branch) (branches_read (place_of c.args.place.now) (owner_of c.args.place.now) (around_of c.leave.new.self) c.term-2.new.next (type_of c.in-Ok.ty) (branches (out-MatchOf c.args.x.now).branches)) ≡ Err f) = c.in_err-done.ensures.read in
     rw (p.1, p.2) (IfSome_then (fault c.in_err-done.field-0.0) told (λ f (h : with_part (map cut_branch) (branches_read (place_of c.args.place.now) (owner_of c.args.place.now) (around_of c.leave.new.self) c.term-2.new.next (type_of c.in-Ok.ty) (branches (out-MatchOf c.args.x.now).branches)) ≡ Err f).
-      ap (λ z. with_part cut (term (place_of c.args.place.now) (owner_of c.args.place.now) (around_of c.args.around.now) c.args.next.now z)) (match_parts c.args.x.now) ∙ match_read (place_of c.args.place.now) (owner_of c.args.place.now) (around_of c.args.around.now) c.args.next.now (tree r.value) (option_map binder r.name) (option_map within r.within) (tree r.motive) (branches r.branches) (known c.in_ok-value.value) (known c.in_ok-motive.motive) (type_of c.in-Ok.ty) (around_of c.enter.new.around) (around_of c.leave.new.self) c.term.new.next c.term-2.new.next (Err f) c.in_ok-value.ensures.read is at c.in_ok-value.ensures.next c.in_ok-motive.ensures.read left c.in_ok-motive.ensures.next
-      (λ value motive _ _. after_fault (map cut_branch) (case_of (type_of c.in-Ok.ty) value motive) cut (branches_read (place_of c.args.place.now) (owner_of c.args.place.now) (around_of c.leave.new.self) c.term-2.new.next (type_of c.in-Ok.ty) (branches (out-MatchOf c.args.x.now).branches)) f h)))
+    ap (λ z. with_part cut (term (place_of c.args.place.now) (owner_of c.args.place.now) (around_of c.args.around.now) c.args.next.now z)) (match_parts c.args.x.now) ∙ match_read (place_of c.args.place.now) (owner_of c.args.place.now) (around_of c.args.around.now) c.args.next.now (tree r.value) (option_map binder r.name) (option_map within r.within) (tree r.motive) (branches r.branches) (known c.in_ok-value.value) (known c.in_ok-motive.motive) (type_of c.in-Ok.ty) (around_of c.enter.new.around) (around_of c.leave.new.self) c.term.new.next c.term-2.new.next (Err f) c.in_ok-value.ensures.read is at c.in_ok-value.ensures.next c.in_ok-motive.ensures.read left c.in_ok-motive.ensures.next
+    (λ value motive _ _. after_fault (map cut_branch) (case_of (type_of c.in-Ok.ty) value motive) cut (branches_read (place_of c.args.place.now) (owner_of c.args.place.now) (around_of c.leave.new.self) c.term-2.new.next (type_of c.in-Ok.ty) (branches (out-MatchOf c.args.x.now).branches)) f h)))
 
 pub case-returns-clause-read : goal.case-returns-clause-read
 case-returns-clause-read t c =
@@ -360,9 +356,9 @@ case-returns-clause-read t c =
     let at = c.in_ok-enter.ensures ∙ ap (λ z. around_motive z (Ok (type_of c.in-Ok.ty)) (option_copied c.value_name.result)) back ∙ ap (around_motive (around_of c.args.around.now) (Ok (type_of c.in-Ok.ty))) c.value_name.ensures in
     let left = c.leave.ensures ∙ left_motive (type_of c.in-Ok.ty) (value_name (tree r.value) (option_map binder r.name)) (around_of c.args.around.now) (around_of c.term-2.new.around) c.len-outside.result c.len-outside.ensures (c.in_ok-motive.ensures.around ∙ at) in
     let is_case : with_part cut (term (place_of c.args.place.now) (owner_of c.args.place.now) (around_of c.args.around.now) c.args.next.now (match_of c.args.x.now)) ≡ (known_case (type_of c.in-Ok.ty) (known c.in_ok-value.value) (known c.in_ok-motive.motive) (done_of c.in_ok-done.done)) =
-      ap (λ z. with_part cut (term (place_of c.args.place.now) (owner_of c.args.place.now) (around_of c.args.around.now) c.args.next.now z)) (match_parts c.args.x.now) ∙ match_read (place_of c.args.place.now) (owner_of c.args.place.now) (around_of c.args.around.now) c.args.next.now (tree r.value) (option_map binder r.name) (option_map within r.within) (tree r.motive) (branches r.branches) (known c.in_ok-value.value) (known c.in_ok-motive.motive) (type_of c.in-Ok.ty) (around_of c.enter.new.around) (around_of c.leave.new.self) c.term.new.next c.term-2.new.next (known_case (type_of c.in-Ok.ty) (known c.in_ok-value.value) (known c.in_ok-motive.motive) (done_of c.in_ok-done.done)) c.in_ok-value.ensures.read is at c.in_ok-value.ensures.next c.in_ok-motive.ensures.read left c.in_ok-motive.ensures.next
-      (λ value motive ev em. after_part (map cut_branch) (case_of (type_of c.in-Ok.ty) value motive) cut (branches_read (place_of c.args.place.now) (owner_of c.args.place.now) (around_of c.leave.new.self) c.term-2.new.next (type_of c.in-Ok.ty) (branches (out-MatchOf c.args.x.now).branches)) (done_of c.in_ok-done.done) (known_case (type_of c.in-Ok.ty) (known c.in_ok-value.value) (known c.in_ok-motive.motive) (done_of c.in_ok-done.done)) c.in_ok-done.ensures.read
-        (λ done ed. sym (whole_case (type_of c.in-Ok.ty) value motive done) ∙ ap (λ z. known_case (type_of c.in-Ok.ty) z (cut motive) (map cut_branch done)) ev ∙ ap (λ z. known_case (type_of c.in-Ok.ty) (known c.in_ok-value.value) z (map cut_branch done)) em ∙ ap (known_case (type_of c.in-Ok.ty) (known c.in_ok-value.value) (known c.in_ok-motive.motive)) ed)) in
+    ap (λ z. with_part cut (term (place_of c.args.place.now) (owner_of c.args.place.now) (around_of c.args.around.now) c.args.next.now z)) (match_parts c.args.x.now) ∙ match_read (place_of c.args.place.now) (owner_of c.args.place.now) (around_of c.args.around.now) c.args.next.now (tree r.value) (option_map binder r.name) (option_map within r.within) (tree r.motive) (branches r.branches) (known c.in_ok-value.value) (known c.in_ok-motive.motive) (type_of c.in-Ok.ty) (around_of c.enter.new.around) (around_of c.leave.new.self) c.term.new.next c.term-2.new.next (known_case (type_of c.in-Ok.ty) (known c.in_ok-value.value) (known c.in_ok-motive.motive) (done_of c.in_ok-done.done)) c.in_ok-value.ensures.read is at c.in_ok-value.ensures.next c.in_ok-motive.ensures.read left c.in_ok-motive.ensures.next
+    (λ value motive ev em. after_part (map cut_branch) (case_of (type_of c.in-Ok.ty) value motive) cut (branches_read (place_of c.args.place.now) (owner_of c.args.place.now) (around_of c.leave.new.self) c.term-2.new.next (type_of c.in-Ok.ty) (branches (out-MatchOf c.args.x.now).branches)) (done_of c.in_ok-done.done) (known_case (type_of c.in-Ok.ty) (known c.in_ok-value.value) (known c.in_ok-motive.motive) (done_of c.in_ok-done.done)) c.in_ok-done.ensures.read
+    (λ done ed. sym (whole_case (type_of c.in-Ok.ty) value motive done) ∙ ap (λ z. known_case (type_of c.in-Ok.ty) z (cut motive) (map cut_branch done)) ev ∙ ap (λ z. known_case (type_of c.in-Ok.ty) (known c.in_ok-value.value) z (map cut_branch done)) em ∙ ap (known_case (type_of c.in-Ok.ty) (known c.in_ok-value.value) (known c.in_ok-motive.motive)) ed)) in
     subst (λ z. Reads known z c.case_of.result) (sym is_case) c.case_of.ensures
 
 pub case-returns-clause-around : goal.case-returns-clause-around
@@ -381,7 +377,7 @@ first_fault-returns-in-Ok t c =
     let entered = ok_then c.enter.result c.is_err.result (around_of c.enter.new.self ≡ option_copied c.value_name.result ∷ (around_of c.args.around.now)) c.is_err.ensures.value c.if-is_err.false c.enter.ensures in
     let at = entered ∙ ap (λ z. z ∷ (around_of c.args.around.now)) c.value_name.ensures in
     λ first value told counted. IfSome_then (fault c.args.reason) c.requires.reason (λ f (h : matched_type (place_of c.args.place.now) (around_of c.args.around.now) (option_map within (out-MatchOf c.args.x.now).within) (branches (out-MatchOf c.args.x.now).branches) ≡ Err f).
-      ap (λ z. with_part cut (term (place_of c.args.place.now) (owner_of c.args.place.now) (around_of c.args.around.now) first z)) (match_parts c.args.x.now) ∙ match_type_fault_without (place_of c.args.place.now) (owner_of c.args.place.now) (around_of c.args.around.now) first (tree r.value) (option_map binder r.name) (option_map within r.within) (tree r.motive) (branches r.branches) value (known c.in-Ok.field-0) (around_of c.enter.new.self) c.args.next.now f told none h at counted c.in-Ok.ensures.read)
+    ap (λ z. with_part cut (term (place_of c.args.place.now) (owner_of c.args.place.now) (around_of c.args.around.now) first z)) (match_parts c.args.x.now) ∙ match_type_fault_without (place_of c.args.place.now) (owner_of c.args.place.now) (around_of c.args.around.now) first (tree r.value) (option_map binder r.name) (option_map within r.within) (tree r.motive) (branches r.branches) value (known c.in-Ok.field-0) (around_of c.enter.new.self) c.args.next.now f told none h at counted c.in-Ok.ensures.read)
 
 pub first_fault-returns : goal.first_fault-returns
 first_fault-returns t c =
@@ -392,4 +388,4 @@ first_fault-returns t c =
     let outside = motive_outside (around_of c.args.around.now) (value_name (tree r.value) (option_map binder r.name)) (matched_type (place_of c.args.place.now) (around_of c.args.around.now) (option_map within (out-MatchOf c.args.x.now).within) (branches (out-MatchOf c.args.x.now).branches)) (fault c.args.reason) c.is_no_memory.result c.is_no_memory.ensures c.if-is_no_memory.false c.requires.reason in
     let earlier : OrNoMemory (fault c.in-Err.earlier) (λ f. with_part cut (term (place_of c.args.place.now) (owner_of c.args.place.now) (around_of c.enter.new.self) c.args.next.now (tree (out-MatchOf c.args.x.now).motive)) ≡ Err f) = c.in-Err.ensures.read in
     λ first value told counted. IfSome_then (fault c.in-Err.earlier) earlier (λ f (h : with_part cut (term (place_of c.args.place.now) (owner_of c.args.place.now) (around_of c.enter.new.self) c.args.next.now (tree (out-MatchOf c.args.x.now).motive)) ≡ Err f).
-      ap (λ z. with_part cut (term (place_of c.args.place.now) (owner_of c.args.place.now) (around_of c.args.around.now) first z)) (match_parts c.args.x.now) ∙ match_motive_fault_without (place_of c.args.place.now) (owner_of c.args.place.now) (around_of c.args.around.now) first (tree r.value) (option_map binder r.name) (option_map within r.within) (tree r.motive) (branches r.branches) value (around_of c.enter.new.self) c.args.next.now f told none (at ∙ sym outside) counted h)
+    ap (λ z. with_part cut (term (place_of c.args.place.now) (owner_of c.args.place.now) (around_of c.args.around.now) first z)) (match_parts c.args.x.now) ∙ match_motive_fault_without (place_of c.args.place.now) (owner_of c.args.place.now) (around_of c.args.around.now) first (tree r.value) (option_map binder r.name) (option_map within r.within) (tree r.motive) (branches r.branches) value (around_of c.enter.new.self) c.args.next.now f told none (at ∙ sym outside) counted h)

@@ -1,5 +1,5 @@
 -- What is read of a list so far. Each call goes to a part, or to the same term at a lower rank.
-use Rattle.std.proofs.Common.{◌≡◌, ◌+◌, ◌*◌, map, drop}
+use Rattle.std.proofs.Common.{◌+◌, ◌*◌, map, drop}
 use Rattle.std.specs.Option.{option_copied}
 use Rattle.gal_grammar.specs.Terms.{arrow, no_functions}
 use Rattle.gal_raw.specs.Denotes.{tree, application, fix_of, let_in, match_of, groups, functions, function, branches}

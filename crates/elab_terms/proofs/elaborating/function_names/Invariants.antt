@@ -1,5 +1,5 @@
 -- The names so far, before those of the functions that are left.
-use Rattle.std.proofs.Common.{◌≡◌, map, drop}
+use Rattle.std.proofs.Common.{map, drop}
 use Rattle.std.specs.Option.{option_copied}
 use Rattle.gal_raw.specs.Denotes.{functions}
 use Rattle.elab_terms.proofs.Names.{NamesSoFar}
