@@ -1,0 +1,11 @@
+pub mod Measures
+pub mod Steps
+pub mod Formers
+pub mod Functions
+pub mod Fixpoints
+pub mod Loops
+pub mod Matching
+pub mod Names
+pub mod Held
+pub mod Branches
+pub mod Limits

@@ -1,0 +1,3 @@
+-- What reading a term answers.
+pub mod Elaboration
+pub mod calls
